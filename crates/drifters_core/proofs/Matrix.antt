@@ -1,0 +1,12 @@
+-- The laws of matrices as flat lists.
+pub mod Tab
+pub mod Grid
+pub mod Elements
+pub mod Sums
+pub mod Columns
+pub mod Place
+pub mod SubTerms
+pub mod Block
+pub mod Mirror
+pub mod Factor
+pub mod Substitution

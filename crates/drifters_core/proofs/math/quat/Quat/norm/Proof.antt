@@ -1,0 +1,12 @@
+-- `Quat::norm` meets its contract.
+use mathlib.Core.Path.{_≡_, refl, sym, ap, ap₂, _∙_}
+use Rattle.drifters_core.specs.Quat.{normQuat}
+use Rattle.drifters_core.proofs.math.quat.Quat.norm.Statement.{statement}
+use Rattle.drifters_core.proofs.math.quat.Quat.norm.Tie as tie
+
+returns : tie.Need-returns
+unfolding normQuat
+returns c = cc
+
+pub norm-spec : {M : Type 1} → statement M
+norm-spec = tie.close (tie.spec (λ c κs. tt) returns)

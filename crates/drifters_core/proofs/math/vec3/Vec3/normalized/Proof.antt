@@ -1,0 +1,16 @@
+-- `Vec3::normalized` meets its contract.
+use mathlib.Core.Path.{_≡_, refl, sym, ap, ap₂, _∙_}
+use Rattle.drifters_core.specs.Vec3.{normalized}
+use Rattle.drifters_core.proofs.math.vec3.Vec3.normalized.Statement.{statement}
+use Rattle.drifters_core.proofs.math.vec3.Vec3.normalized.Tie as tie
+
+returns : tie.Need-returns
+unfolding normalized
+returns c = rw (← c .before .before .norm .ensures, c .before .if1 .taken) (c .div .ensures)
+
+returns-2 : tie.Need-returns-2
+unfolding normalized
+returns-2 c = rw (← c .before .norm .ensures, c .if1 .left)
+
+pub normalized-spec : {M : Type 1} → statement M
+normalized-spec = tie.close (tie.spec (λ c κs. tt) (λ c κs. tt) returns returns-2)

@@ -1,0 +1,210 @@
+-- Port of math/matrix.rs, for all dimensions: a matrix is the flat list of its entries, row by row. Definitions only.
+use Prim.Native.Nat.{ℕ, zero, suc, _+_, _-_, _*_, _/_, _%_}
+use mathlib.Core.Bool.{Bool, true, false, not, _&&_, _||_, cond}
+use mathlib.Core.List.{List, [], _∷_, _++_}
+use lib.Dec.{eqb, leb, ltb}
+use lib.ListN.{getD, set, replicate}
+use lib.Ieee.{Float, nan, neg, lt, le, eq}
+use Rattle.drifters_real.specs.Scalar.{_⊕_, _⊖_, _⊗_, _⊘_, plusZero, one, half}
+use Rattle.drifters_real.specs.Real.{sqrt, abs, isFinite}
+use Rattle.drifters_core.specs.declared.math.vec3.Vec3.{Vec3}
+use Rattle.drifters_core.specs.declared.math.shapes.Mat3.{Mat3}
+use Rattle.drifters_core.specs.declared.math.shapes.Cholesky3.{Cholesky3}
+use Rattle.drifters_core.specs.declared.math.shapes.Factored3.{Factored3}
+
+-- f 0, f 1, .., f (n - 1)
+unfoldable pub tab : ℕ → (ℕ → Float) → List Float
+tab zero f = []
+tab (suc n) f = tab n f ++ (f n ∷ [])
+
+-- entry (i, j) of a matrix of c columns
+abbrev pub at : ℕ → List Float → ℕ → ℕ → Float
+at c m i j = getD m (i * c + j) nan
+
+-- the r by c matrix whose entry (i, j) is f i j
+unfoldable pub matrix : ℕ → ℕ → (ℕ → ℕ → Float) → List Float
+matrix r c f = tab (r * c) (λ n. f (n / c) (n % c))
+
+-- n entries of +0.0
+abbrev pub zeros : ℕ → List Float
+zeros n = replicate n plusZero
+
+-- the c by r matrix whose rows are the columns of an r by c matrix
+unfoldable pub transpose : ℕ → ℕ → List Float → List Float
+transpose r c m = matrix c r (λ i j. at c m j i)
+
+-- x ⊗ y added to acc; where skip is set and x is a zero of either sign, acc as it is
+abbrev pub addTerm : Bool → Float → Float → Float → Float
+addTerm skip acc x y = cond (skip && eq x plusZero) acc (acc ⊕ x ⊗ y)
+
+-- the products f 0 ⊗ g 0, .., f (n - 1) ⊗ g (n - 1) added to +0.0 in that order
+unfoldable pub sumTerms : Bool → (ℕ → Float) → (ℕ → Float) → ℕ → Float
+sumTerms skip f g zero = plusZero
+sumTerms skip f g (suc n) = addTerm skip (sumTerms skip f g n) (f n) (g n)
+
+-- the product of an r by c and a c by d matrix; a left entry equal to zero is skipped
+unfoldable pub matmul : ℕ → ℕ → ℕ → List Float → List Float → List Float
+matmul r c d a b = matrix r d (λ i j. sumTerms true (at c a i) (λ k. at d b k j) c)
+
+-- the product of an r by c matrix and the transpose of a d by c matrix; nothing is skipped
+unfoldable pub mulTranspose : ℕ → ℕ → ℕ → List Float → List Float → List Float
+mulTranspose r c d a b = matrix r d (λ i j. sumTerms false (at c a i) (at c b j) c)
+
+-- each of n entries times s
+unfoldable pub scaled : ℕ → List Float → Float → List Float
+scaled n m s = tab n (λ k. getD m k nan ⊗ s)
+
+-- a block of br rows and bc columns at (r0, c0) lies within an r by c matrix
+abbrev pub blockFits : ℕ → ℕ → ℕ → ℕ → ℕ → ℕ → Bool
+blockFits r c br bc r0 c0 = leb (r0 + br) r && leb (c0 + bc) c
+
+-- (i, j) lies within the block of br rows and bc columns at (r0, c0)
+abbrev pub inBlock : ℕ → ℕ → ℕ → ℕ → ℕ → ℕ → Bool
+inBlock br bc r0 c0 i j = leb r0 i && ltb i (r0 + br) && (leb c0 j && ltb j (c0 + bc))
+
+-- the r by c matrix m with the block at (r0, c0) replaced by src; m as it is where the block does not fit
+unfoldable pub setBlock : ℕ → ℕ → ℕ → ℕ → ℕ → ℕ → List Float → List Float → List Float
+setBlock r c br bc r0 c0 m src =
+    cond (blockFits r c br bc r0 c0)
+    (matrix r c (λ i j. cond (inBlock br bc r0 c0 i j) (at bc src (i - r0) (j - c0)) (at c m i j)))
+    m
+
+-- the block of br rows and bc columns at (r0, c0) of an r by c matrix; zeros where it does not fit
+unfoldable pub block : ℕ → ℕ → ℕ → ℕ → ℕ → ℕ → List Float → List Float
+block r c br bc r0 c0 m = cond (blockFits r c br bc r0 c0) (matrix br bc (λ i j. at c m (r0 + i) (c0 + j))) (zeros (br * bc))
+
+-- every entry is finite
+unfoldable pub allFinite : List Float → Bool
+allFinite [] = true
+allFinite (x ∷ m) = isFinite x && allFinite m
+
+-- the larger of acc and the size of x; acc where x is not a number
+abbrev pub larger : Float → Float → Float
+larger acc x = cond (lt acc (abs x)) (abs x) acc
+
+-- the largest size among the first n entries, from +0.0: not-a-numbers are passed over
+unfoldable pub amax : ℕ → List Float → Float
+amax zero m = plusZero
+amax (suc n) m = larger (amax n m) (getD m n nan)
+
+-- the n by n matrix with d on its diagonal and +0.0 elsewhere
+unfoldable pub fromDiagonal : ℕ → List Float → List Float
+fromDiagonal n d = matrix n n (λ i j. cond (eqb i j) (getD d i nan) plusZero)
+
+-- the n by n identity matrix: ones on the diagonal
+abbrev pub identity : ℕ → List Float
+identity n = fromDiagonal n (replicate n one)
+
+-- the diagonal of an n by n matrix
+unfoldable pub diagonal : ℕ → List Float → List Float
+diagonal n m = tab n (λ i. at n m i i)
+
+-- half the sum of entry (i, j) and its mirror image
+abbrev pub mean : ℕ → List Float → ℕ → ℕ → Float
+mean n m i j = half ⊗ (at n m i j ⊕ at n m j i)
+
+-- the n by n matrix m with each mirrored pair replaced by its mean, the entry above the diagonal added first
+unfoldable pub symmetrize : ℕ → List Float → List Float
+symmetrize n m = matrix n n (λ i j. cond (ltb i j) (mean n m i j) (cond (ltb j i) (mean n m j i) (at n m i j)))
+
+-- a pivot at which the factorisation stops: not finite, or at most 0
+abbrev pub badPivot : Float → Bool
+badPivot x = not (isFinite x) || le x plusZero
+
+-- the lower factor as far as it is made, or none
+pub data Factor : Type 0 where
+  none : Factor
+  lower : List Float → Factor
+
+-- the products f 0 ⊗ g 0, .., f (n - 1) ⊗ g (n - 1) taken from start in that order
+unfoldable pub subTerms : Float → (ℕ → Float) → (ℕ → Float) → ℕ → Float
+subTerms start f g zero = start
+subTerms start f g (suc n) = subTerms start f g n ⊖ f n ⊗ g n
+
+-- entry (i, j) of a less the products of the factor's entries in the columns before j
+abbrev pub reduced : ℕ → List Float → List Float → ℕ → ℕ → Float
+reduced n a l i j = subTerms (at n a i j) (at n l i) (at n l j) j
+
+-- entry (i, j) of the factor after those before it: on the diagonal the root of the pivot, unless that is bad
+unfoldable pub factorEntry : ℕ → List Float → ℕ → ℕ → Factor → Factor
+factorEntry n a i j none = none
+factorEntry n a i j (lower l) =
+    cond (eqb i j)
+    (cond (badPivot (reduced n a l i j)) none (lower (set l (i * n + j) (sqrt (reduced n a l i j)))))
+    (lower (set l (i * n + j) (reduced n a l i j ⊘ at n l j j)))
+
+-- the first j entries of row i
+unfoldable pub factorColumns : ℕ → List Float → ℕ → ℕ → Factor → Factor
+unfolding factorEntry
+factorColumns n a i zero f = f
+factorColumns n a i (suc j) f = factorEntry n a i j (factorColumns n a i j f)
+
+-- the first i rows, from zeros: of row i the columns 0 to i
+unfoldable pub factorRows : ℕ → List Float → ℕ → Factor
+unfolding factorColumns
+factorRows n a zero = lower (zeros (n * n))
+factorRows n a (suc i) = factorColumns n a i (suc i) (factorRows n a i)
+
+-- the lower factor of the n by n matrix a, of which the lower triangle is read; none at the first bad pivot
+unfoldable pub cholesky : ℕ → List Float → Factor
+unfolding factorRows
+cholesky n a = factorRows n a n
+
+-- the answer for 3 by 3 matrices: the factor, or that the matrix is not positive definite, and zeros
+abbrev pub answer3 : Factor → Factored3
+answer3 none = record { definite = false; factor = record { lower = record { «data» = zeros 9 } } }
+answer3 (lower l) = record { definite = true; factor = record { lower = record { «data» = l } } }
+
+-- what the factorisation of a 3 by 3 matrix answers
+unfoldable pub factored3 : List Float → Factored3
+factored3 a = answer3 (cholesky 3 a)
+
+-- the n by c matrix x with row i replaced by f
+unfoldable pub setRow : ℕ → ℕ → ℕ → (ℕ → Float) → List Float → List Float
+setRow n c i f x = matrix n c (λ p j. cond (eqb p i) (f j) (at c x p j))
+
+-- row i of the forward substitution, after the rows above it
+abbrev pub forwardRow : ℕ → ℕ → List Float → ℕ → List Float → List Float
+forwardRow n c l i x = setRow n c i (λ j. subTerms (at c x i j) (at n l i) (λ k. at c x k j) i ⊘ at n l i i) x
+
+-- the first i rows of the forward substitution: L Y = B
+unfoldable pub forward : ℕ → ℕ → List Float → List Float → ℕ → List Float
+unfolding setRow
+forward n c l b zero = b
+forward n c l b (suc i) = forwardRow n c l i (forward n c l b i)
+
+-- row i of the back substitution, after the rows below it
+abbrev pub backRow : ℕ → ℕ → List Float → ℕ → List Float → List Float
+backRow n c l i x =
+    setRow n c i (λ j. subTerms (at c x i j) (λ k. at n l (i + 1 + k) i) (λ k. at c x (i + 1 + k) j) (n - (i + 1)) ⊘ at n l i i) x
+
+-- the last p rows of the back substitution: Lᵀ X = Y
+unfoldable pub back : ℕ → ℕ → List Float → List Float → ℕ → List Float
+unfolding setRow
+back n c l y zero = y
+back n c l y (suc p) = backRow n c l (n - (p + 1)) (back n c l y p)
+
+-- the solution of A X = B, with the n by n factor l of A and the n by c matrix b
+unfoldable pub solve : ℕ → ℕ → List Float → List Float → List Float
+unfolding forward back
+solve n c l b = back n c l (forward n c l b n) n
+
+-- each entry of a plus that of b, of n entries
+unfoldable pub addMatrix : ℕ → List Float → List Float → List Float
+addMatrix n a b = tab n (λ k. getD a k nan ⊕ getD b k nan)
+
+-- each entry of a less that of b
+unfoldable pub subMatrix : ℕ → List Float → List Float → List Float
+subMatrix n a b = tab n (λ k. getD a k nan ⊖ getD b k nan)
+
+-- each entry negated
+unfoldable pub negMatrix : ℕ → List Float → List Float
+negMatrix n a = tab n (λ k. neg (getD a k nan))
+
+-- row i of a 3 by 3 matrix times v
+abbrev pub rowTimes : List Float → ℕ → Vec3 → Float
+rowTimes m i v = at 3 m i 0 ⊗ v .x ⊕ at 3 m i 1 ⊗ v .y ⊕ at 3 m i 2 ⊗ v .z
+
+-- the 3 by 3 matrix m times v
+unfoldable pub mulMat3Vec3 : Mat3 → Vec3 → Vec3
+mulMat3Vec3 m v = record { x = rowTimes (m .«data») 0 v; y = rowTimes (m .«data») 1 v; z = rowTimes (m .«data») 2 v }

@@ -1,0 +1,5 @@
+// Vectors, matrices and quaternions.
+pub mod matrix;
+pub mod quat;
+pub mod shapes;
+pub mod vec3;

@@ -1,0 +1,542 @@
+// The shapes of matrix in use: for each a record with one flat array, by value. A method calls the function of matrix.rt at its dimensions.
+ghost use mathlib.Core.Path.{_≡_};
+ghost use Rattle.drifters_core.specs.Matrix.{zeros, transpose, matmul, mulTranspose, scaled, setBlock, block, allFinite, amax, fromDiagonal, identity, diagonal, symmetrize, factored3, solve, addMatrix, subMatrix, negMatrix, mulMat3Vec3};
+ghost use Rattle.drifters_core.specs.Vec3.{toArray};
+use crate::math::matrix::add_in;
+use crate::math::matrix::all_finite;
+use crate::math::matrix::amax_of;
+use crate::math::matrix::block_into;
+use crate::math::matrix::cholesky_into;
+use crate::math::matrix::diagonal_into;
+use crate::math::matrix::from_diagonal_in;
+use crate::math::matrix::matmul_into;
+use crate::math::matrix::mul_transpose_into;
+use crate::math::matrix::neg_in;
+use crate::math::matrix::scale_in;
+use crate::math::matrix::set_block_in;
+use crate::math::matrix::solve_in;
+use crate::math::matrix::sub_in;
+use crate::math::matrix::symmetrize_in;
+use crate::math::matrix::transpose_into;
+use crate::math::vec3::Vec3;
+
+// 3 by 3: rotations, skew forms, blocks of three axes.
+pub struct Mat3 {
+    pub data: [f64; 9],
+}
+
+// 6 by 6.
+pub struct Mat6 {
+    pub data: [f64; 36],
+}
+
+// 18 by 18.
+pub struct Mat18 {
+    pub data: [f64; 324],
+}
+
+// 21 by 21: the covariance.
+pub struct Mat21 {
+    pub data: [f64; 441],
+}
+
+// 3 by 21: an output matrix.
+pub struct Mat3x21 {
+    pub data: [f64; 63],
+}
+
+// 21 by 3: a gain.
+pub struct Mat21x3 {
+    pub data: [f64; 63],
+}
+
+// 21 by 18.
+pub struct Mat21x18 {
+    pub data: [f64; 378],
+}
+
+// A column of 3.
+pub struct Vector3 {
+    pub data: [f64; 3],
+}
+
+// A column of 6.
+pub struct Vector6 {
+    pub data: [f64; 6],
+}
+
+// A column of 21.
+pub struct Vector21 {
+    pub data: [f64; 21],
+}
+
+impl Mat3 {
+    pub fn identity() -> Mat3
+        ensures { λ r. ⌜ r .data ≡ identity 3 ⌝ }
+    {
+        let ones = [1.0; 3];
+        let mut data = [0.0; 9];
+        from_diagonal_in(&mut data, &ones, 3);
+        Mat3 { data }
+    }
+
+    pub fn transpose(self) -> Mat3
+        ensures { λ r. ⌜ r .data ≡ transpose 3 3 (self .data) ⌝ }
+    {
+        let mut data = [0.0; 9];
+        transpose_into(&self.data, &mut data, 3, 3);
+        Mat3 { data }
+    }
+
+    pub fn matmul(self, rhs: Mat3) -> Mat3
+        ensures { λ r. ⌜ r .data ≡ matmul 3 3 3 (self .data) (rhs .data) ⌝ }
+    {
+        let mut row = [0.0; 3];
+        let mut data = [0.0; 9];
+        matmul_into(&self.data, &rhs.data, &mut row, &mut data, 3, 3, 3);
+        Mat3 { data }
+    }
+
+    pub fn scaled(self, s: f64) -> Mat3
+        ensures { λ r. ⌜ r .data ≡ scaled 9 (self .data) s ⌝ }
+    {
+        let mut data = self.data;
+        scale_in(&mut data, s, 9);
+        Mat3 { data }
+    }
+
+    pub fn is_finite(self) -> bool
+        ensures { λ r. ⌜ r ≡ allFinite (self .data) ⌝ }
+    {
+        all_finite(&self.data)
+    }
+
+    pub fn add(self, rhs: Mat3) -> Mat3
+        ensures { λ r. ⌜ r .data ≡ addMatrix 9 (self .data) (rhs .data) ⌝ }
+    {
+        let mut data = self.data;
+        add_in(&mut data, &rhs.data, 9);
+        Mat3 { data }
+    }
+
+    pub fn neg(self) -> Mat3
+        ensures { λ r. ⌜ r .data ≡ negMatrix 9 (self .data) ⌝ }
+    {
+        let mut data = self.data;
+        neg_in(&mut data, 9);
+        Mat3 { data }
+    }
+
+    // The matrix times a vector.
+    pub fn mul_vec3(self, v: Vec3) -> Vec3
+        ensures { λ r. ⌜ r ≡ mulMat3Vec3 self v ⌝ }
+    {
+        let m = self.data;
+        Vec3 {
+            x: m[0] * v.x + m[1] * v.y + m[2] * v.z,
+            y: m[3] * v.x + m[4] * v.y + m[5] * v.z,
+            z: m[6] * v.x + m[7] * v.y + m[8] * v.z,
+        }
+    }
+}
+
+impl Mat6 {
+    pub fn zeros() -> Mat6
+        ensures { λ r. ⌜ r .data ≡ zeros 36 ⌝ }
+    {
+        let data = [0.0; 36];
+        Mat6 { data }
+    }
+
+    pub fn identity() -> Mat6
+        ensures { λ r. ⌜ r .data ≡ identity 6 ⌝ }
+    {
+        let ones = [1.0; 6];
+        let mut data = [0.0; 36];
+        from_diagonal_in(&mut data, &ones, 6);
+        Mat6 { data }
+    }
+
+    pub fn matmul(self, rhs: Mat6) -> Mat6
+        ensures { λ r. ⌜ r .data ≡ matmul 6 6 6 (self .data) (rhs .data) ⌝ }
+    {
+        let mut row = [0.0; 6];
+        let mut data = [0.0; 36];
+        matmul_into(&self.data, &rhs.data, &mut row, &mut data, 6, 6, 6);
+        Mat6 { data }
+    }
+
+    pub fn matmul_vector(self, rhs: Vector6) -> Vector6
+        ensures { λ r. ⌜ r .data ≡ matmul 6 6 1 (self .data) (rhs .data) ⌝ }
+    {
+        let mut row = [0.0; 1];
+        let mut data = [0.0; 6];
+        matmul_into(&self.data, &rhs.data, &mut row, &mut data, 6, 6, 1);
+        Vector6 { data }
+    }
+
+    pub fn scaled(self, s: f64) -> Mat6
+        ensures { λ r. ⌜ r .data ≡ scaled 36 (self .data) s ⌝ }
+    {
+        let mut data = self.data;
+        scale_in(&mut data, s, 36);
+        Mat6 { data }
+    }
+
+    // `src` in the block at (r0, c0); the matrix as it is where the block does not fit.
+    pub fn set_block(self, r0: usize, c0: usize, src: Mat3) -> Mat6
+        ensures { λ r. ⌜ r .data ≡ setBlock 6 6 3 3 r0 c0 (self .data) (src .data) ⌝ }
+    {
+        let mut data = self.data;
+        set_block_in(&mut data, &src.data, 6, 6, 3, 3, r0, c0);
+        Mat6 { data }
+    }
+
+    pub fn add(self, rhs: Mat6) -> Mat6
+        ensures { λ r. ⌜ r .data ≡ addMatrix 36 (self .data) (rhs .data) ⌝ }
+    {
+        let mut data = self.data;
+        add_in(&mut data, &rhs.data, 36);
+        Mat6 { data }
+    }
+}
+
+impl Mat18 {
+    pub fn from_diagonal(d: [f64; 18]) -> Mat18
+        ensures { λ r. ⌜ r .data ≡ fromDiagonal 18 d ⌝ }
+    {
+        let mut data = [0.0; 324];
+        from_diagonal_in(&mut data, &d, 18);
+        Mat18 { data }
+    }
+}
+
+impl Mat21 {
+    pub fn zeros() -> Mat21
+        ensures { λ r. ⌜ r .data ≡ zeros 441 ⌝ }
+    {
+        let data = [0.0; 441];
+        Mat21 { data }
+    }
+
+    pub fn identity() -> Mat21
+        ensures { λ r. ⌜ r .data ≡ identity 21 ⌝ }
+    {
+        let ones = [1.0; 21];
+        let mut data = [0.0; 441];
+        from_diagonal_in(&mut data, &ones, 21);
+        Mat21 { data }
+    }
+
+    pub fn matmul(self, rhs: Mat21) -> Mat21
+        ensures { λ r. ⌜ r .data ≡ matmul 21 21 21 (self .data) (rhs .data) ⌝ }
+    {
+        let mut row = [0.0; 21];
+        let mut data = [0.0; 441];
+        matmul_into(&self.data, &rhs.data, &mut row, &mut data, 21, 21, 21);
+        Mat21 { data }
+    }
+
+    pub fn mul_transpose(self, rhs: Mat21) -> Mat21
+        ensures { λ r. ⌜ r .data ≡ mulTranspose 21 21 21 (self .data) (rhs .data) ⌝ }
+    {
+        let mut t = [0.0; 441];
+        let mut row = [0.0; 21];
+        let mut data = [0.0; 441];
+        mul_transpose_into(
+            &self.data,
+            &rhs.data,
+            &mut t,
+            &mut row,
+            &mut data,
+            21,
+            21,
+            21,
+        );
+        Mat21 { data }
+    }
+
+    pub fn scaled(self, s: f64) -> Mat21
+        ensures { λ r. ⌜ r .data ≡ scaled 441 (self .data) s ⌝ }
+    {
+        let mut data = self.data;
+        scale_in(&mut data, s, 441);
+        Mat21 { data }
+    }
+
+    // `src` in the block at (r0, c0); the matrix as it is where the block does not fit.
+    pub fn set_block(self, r0: usize, c0: usize, src: Mat3) -> Mat21
+        ensures { λ r. ⌜ r .data ≡ setBlock 21 21 3 3 r0 c0 (self .data) (src .data) ⌝ }
+    {
+        let mut data = self.data;
+        set_block_in(&mut data, &src.data, 21, 21, 3, 3, r0, c0);
+        Mat21 { data }
+    }
+
+    // `src` in the block at (r0, c0); the matrix as it is where the block does not fit.
+    pub fn set_block6(self, r0: usize, c0: usize, src: Mat6) -> Mat21
+        ensures { λ r. ⌜ r .data ≡ setBlock 21 21 6 6 r0 c0 (self .data) (src .data) ⌝ }
+    {
+        let mut data = self.data;
+        set_block_in(&mut data, &src.data, 21, 21, 6, 6, r0, c0);
+        Mat21 { data }
+    }
+
+    // The block at (r0, c0); zeros where it does not fit.
+    pub fn block(self, r0: usize, c0: usize) -> Mat3
+        ensures { λ r. ⌜ r .data ≡ block 21 21 3 3 r0 c0 (self .data) ⌝ }
+    {
+        let mut data = [0.0; 9];
+        block_into(&self.data, &mut data, 21, 21, 3, 3, r0, c0);
+        Mat3 { data }
+    }
+
+    pub fn is_finite(self) -> bool
+        ensures { λ r. ⌜ r ≡ allFinite (self .data) ⌝ }
+    {
+        all_finite(&self.data)
+    }
+
+    pub fn amax(self) -> f64
+        ensures { λ r. ⌜ r ≡ amax 441 (self .data) ⌝ }
+    {
+        amax_of(&self.data, 441)
+    }
+
+    pub fn diagonal(self) -> [f64; 21]
+        ensures { λ r. ⌜ r ≡ diagonal 21 (self .data) ⌝ }
+    {
+        let mut out = [0.0; 21];
+        diagonal_into(&self.data, &mut out, 21);
+        out
+    }
+
+    pub fn symmetrize(self) -> Mat21
+        ensures { λ r. ⌜ r .data ≡ symmetrize 21 (self .data) ⌝ }
+    {
+        let mut data = self.data;
+        symmetrize_in(&mut data, 21);
+        Mat21 { data }
+    }
+
+    pub fn add(self, rhs: Mat21) -> Mat21
+        ensures { λ r. ⌜ r .data ≡ addMatrix 441 (self .data) (rhs .data) ⌝ }
+    {
+        let mut data = self.data;
+        add_in(&mut data, &rhs.data, 441);
+        Mat21 { data }
+    }
+
+    pub fn sub(self, rhs: Mat21) -> Mat21
+        ensures { λ r. ⌜ r .data ≡ subMatrix 441 (self .data) (rhs .data) ⌝ }
+    {
+        let mut data = self.data;
+        sub_in(&mut data, &rhs.data, 441);
+        Mat21 { data }
+    }
+}
+
+impl Mat3x21 {
+    pub fn zeros() -> Mat3x21
+        ensures { λ r. ⌜ r .data ≡ zeros 63 ⌝ }
+    {
+        let data = [0.0; 63];
+        Mat3x21 { data }
+    }
+
+    pub fn transpose(self) -> Mat21x3
+        ensures { λ r. ⌜ r .data ≡ transpose 3 21 (self .data) ⌝ }
+    {
+        let mut data = [0.0; 63];
+        transpose_into(&self.data, &mut data, 3, 21);
+        Mat21x3 { data }
+    }
+
+    pub fn matmul(self, rhs: Mat21) -> Mat3x21
+        ensures { λ r. ⌜ r .data ≡ matmul 3 21 21 (self .data) (rhs .data) ⌝ }
+    {
+        let mut row = [0.0; 21];
+        let mut data = [0.0; 63];
+        matmul_into(&self.data, &rhs.data, &mut row, &mut data, 3, 21, 21);
+        Mat3x21 { data }
+    }
+
+    pub fn mul_transpose(self, rhs: Mat3x21) -> Mat3
+        ensures { λ r. ⌜ r .data ≡ mulTranspose 3 21 3 (self .data) (rhs .data) ⌝ }
+    {
+        let mut t = [0.0; 63];
+        let mut row = [0.0; 3];
+        let mut data = [0.0; 9];
+        mul_transpose_into(&self.data, &rhs.data, &mut t, &mut row, &mut data, 3, 21, 3);
+        Mat3 { data }
+    }
+
+    // `src` in the block at (r0, c0); the matrix as it is where the block does not fit.
+    pub fn set_block(self, r0: usize, c0: usize, src: Mat3) -> Mat3x21
+        ensures { λ r. ⌜ r .data ≡ setBlock 3 21 3 3 r0 c0 (self .data) (src .data) ⌝ }
+    {
+        let mut data = self.data;
+        set_block_in(&mut data, &src.data, 3, 21, 3, 3, r0, c0);
+        Mat3x21 { data }
+    }
+}
+
+impl Mat21x3 {
+    pub fn matmul_vector(self, rhs: Vector3) -> Vector21
+        ensures { λ r. ⌜ r .data ≡ matmul 21 3 1 (self .data) (rhs .data) ⌝ }
+    {
+        let mut row = [0.0; 1];
+        let mut data = [0.0; 21];
+        matmul_into(&self.data, &rhs.data, &mut row, &mut data, 21, 3, 1);
+        Vector21 { data }
+    }
+
+    pub fn matmul3(self, rhs: Mat3) -> Mat21x3
+        ensures { λ r. ⌜ r .data ≡ matmul 21 3 3 (self .data) (rhs .data) ⌝ }
+    {
+        let mut row = [0.0; 3];
+        let mut data = [0.0; 63];
+        matmul_into(&self.data, &rhs.data, &mut row, &mut data, 21, 3, 3);
+        Mat21x3 { data }
+    }
+
+    pub fn matmul21(self, rhs: Mat3x21) -> Mat21
+        ensures { λ r. ⌜ r .data ≡ matmul 21 3 21 (self .data) (rhs .data) ⌝ }
+    {
+        let mut row = [0.0; 21];
+        let mut data = [0.0; 441];
+        matmul_into(&self.data, &rhs.data, &mut row, &mut data, 21, 3, 21);
+        Mat21 { data }
+    }
+
+    pub fn mul_transpose(self, rhs: Mat21x3) -> Mat21
+        ensures { λ r. ⌜ r .data ≡ mulTranspose 21 3 21 (self .data) (rhs .data) ⌝ }
+    {
+        let mut t = [0.0; 63];
+        let mut row = [0.0; 21];
+        let mut data = [0.0; 441];
+        mul_transpose_into(
+            &self.data,
+            &rhs.data,
+            &mut t,
+            &mut row,
+            &mut data,
+            21,
+            3,
+            21,
+        );
+        Mat21 { data }
+    }
+}
+
+impl Mat21x18 {
+    pub fn zeros() -> Mat21x18
+        ensures { λ r. ⌜ r .data ≡ zeros 378 ⌝ }
+    {
+        let data = [0.0; 378];
+        Mat21x18 { data }
+    }
+
+    pub fn matmul(self, rhs: Mat18) -> Mat21x18
+        ensures { λ r. ⌜ r .data ≡ matmul 21 18 18 (self .data) (rhs .data) ⌝ }
+    {
+        let mut row = [0.0; 18];
+        let mut data = [0.0; 378];
+        matmul_into(&self.data, &rhs.data, &mut row, &mut data, 21, 18, 18);
+        Mat21x18 { data }
+    }
+
+    pub fn mul_transpose(self, rhs: Mat21x18) -> Mat21
+        ensures { λ r. ⌜ r .data ≡ mulTranspose 21 18 21 (self .data) (rhs .data) ⌝ }
+    {
+        let mut t = [0.0; 378];
+        let mut row = [0.0; 21];
+        let mut data = [0.0; 441];
+        mul_transpose_into(
+            &self.data,
+            &rhs.data,
+            &mut t,
+            &mut row,
+            &mut data,
+            21,
+            18,
+            21,
+        );
+        Mat21 { data }
+    }
+}
+
+impl Vector3 {
+    pub fn from_vec3(v: Vec3) -> Vector3
+        ensures { λ r. ⌜ r .data ≡ toArray v ⌝ }
+    {
+        Vector3 {
+            data: [v.x, v.y, v.z],
+        }
+    }
+
+    pub fn mul_transpose(self, rhs: Vector3) -> Mat3
+        ensures { λ r. ⌜ r .data ≡ mulTranspose 3 1 3 (self .data) (rhs .data) ⌝ }
+    {
+        let mut t = [0.0; 3];
+        let mut row = [0.0; 3];
+        let mut data = [0.0; 9];
+        mul_transpose_into(&self.data, &rhs.data, &mut t, &mut row, &mut data, 3, 1, 3);
+        Mat3 { data }
+    }
+}
+
+// The Cholesky factorisation A = L Lᵀ of a 3 by 3 matrix.
+pub struct Cholesky3 {
+    pub lower: Mat3,
+}
+
+// What the factorisation answers: the factor, or that the matrix is not positive definite, and a factor of zeros.
+pub struct Factored3 {
+    pub definite: bool,
+    pub factor: Cholesky3,
+}
+
+impl Cholesky3 {
+    pub fn new(a: Mat3) -> Factored3
+        ensures { λ r. ⌜ r ≡ factored3 (a .data) ⌝ }
+    {
+        let mut l = [0.0; 9];
+        if cholesky_into(&a.data, &mut l, 3) {
+            let lower = Mat3 { data: l };
+            let factor = Cholesky3 { lower };
+            Factored3 {
+                definite: true,
+                factor,
+            }
+        } else {
+            let zeros = [0.0; 9];
+            let lower = Mat3 { data: zeros };
+            let factor = Cholesky3 { lower };
+            Factored3 {
+                definite: false,
+                factor,
+            }
+        }
+    }
+
+    // The solution of A X = B.
+    pub fn solve(self, b: Mat3x21) -> Mat3x21
+        ensures { λ r. ⌜ r .data ≡ solve 3 21 (self .lower .data) (b .data) ⌝ }
+    {
+        let l = self.lower;
+        let mut data = b.data;
+        solve_in(&l.data, &mut data, 3, 21);
+        Mat3x21 { data }
+    }
+
+    // The solution of A x = b.
+    pub fn solve_vector(self, b: Vector3) -> Vector3
+        ensures { λ r. ⌜ r .data ≡ solve 3 1 (self .lower .data) (b .data) ⌝ }
+    {
+        let l = self.lower;
+        let mut data = b.data;
+        solve_in(&l.data, &mut data, 3, 1);
+        Vector3 { data }
+    }
+}

@@ -1,0 +1,2 @@
+// The scalars.
+pub mod real;
