@@ -135,19 +135,16 @@ factorEntry n a i j (lower l) =
 
 -- the first j entries of row i
 unfoldable pub factorColumns : ℕ → List Float → ℕ → ℕ → Factor → Factor
-unfolding factorEntry
 factorColumns n a i zero f = f
 factorColumns n a i (suc j) f = factorEntry n a i j (factorColumns n a i j f)
 
 -- the first i rows, from zeros: of row i the columns 0 to i
 unfoldable pub factorRows : ℕ → List Float → ℕ → Factor
-unfolding factorColumns
 factorRows n a zero = lower (zeros (n * n))
 factorRows n a (suc i) = factorColumns n a i (suc i) (factorRows n a i)
 
 -- the lower factor of the n by n matrix a, of which the lower triangle is read; none at the first bad pivot
 unfoldable pub cholesky : ℕ → List Float → Factor
-unfolding factorRows
 cholesky n a = factorRows n a n
 
 -- the answer for 3 by 3 matrices: the factor, or that the matrix is not positive definite, and zeros
@@ -169,7 +166,6 @@ forwardRow n c l i x = setRow n c i (λ j. subTerms (at c x i j) (at n l i) (λ 
 
 -- the first i rows of the forward substitution: L Y = B
 unfoldable pub forward : ℕ → ℕ → List Float → List Float → ℕ → List Float
-unfolding setRow
 forward n c l b zero = b
 forward n c l b (suc i) = forwardRow n c l i (forward n c l b i)
 
@@ -180,13 +176,11 @@ backRow n c l i x =
 
 -- the last p rows of the back substitution: Lᵀ X = Y
 unfoldable pub back : ℕ → ℕ → List Float → List Float → ℕ → List Float
-unfolding setRow
 back n c l y zero = y
 back n c l y (suc p) = backRow n c l (n - (p + 1)) (back n c l y p)
 
 -- the solution of A X = B, with the n by n factor l of A and the n by c matrix b
 unfoldable pub solve : ℕ → ℕ → List Float → List Float → List Float
-unfolding forward back
 solve n c l b = back n c l (forward n c l b n) n
 
 -- each entry of a plus that of b, of n entries

@@ -11,7 +11,7 @@ use lib.ListN.{set}
 use lib.Ieee.{Float, le}
 use Rattle.drifters_real.specs.Scalar.{_⊘_, plusZero}
 use Rattle.drifters_real.specs.Real.{sqrt, isFinite}
-use Rattle.drifters_core.specs.Matrix.{at, badPivot, Factor, none, lower, reduced, factorColumns, factorRows, cholesky}
+use Rattle.drifters_core.specs.Matrix.{at, badPivot, Factor, none, lower, reduced, factorEntry, factorColumns, factorRows, cholesky}
 
 -- the two tests of a pivot, made one after the other
 pub not-finite-bad : (x : Float) {t : Bool} → t ≡ isFinite x → not t ≡ true → badPivot x ≡ true
@@ -24,7 +24,7 @@ finite-bad x e h = ap (λ b. b || le x plusZero) (sym (ap not e) ∙ h)
 module _ (n : ℕ) (a : List Float) (i j : ℕ) (f : Factor) (l : List Float) (s : Float) (e : factorColumns n a i j f ≡ lower l) (r : s ≡ reduced n a l i j) where
   next : factorColumns n a i (j + 1) f ≡
       cond (eqb i j) (cond (badPivot s) none (lower (set l (i * n + j) (sqrt s)))) (lower (set l (i * n + j) (s ⊘ at n l j j)))
-  unfolding factorColumns
+  unfolding factorColumns factorEntry
   next = rw (add-one, e, r)
 
   pub stop : i ≡ j → badPivot s ≡ true → factorColumns n a i (j + 1) f ≡ none
@@ -42,7 +42,7 @@ factor-rows-next n a i = rw add-one
 
 -- none stays none
 columns-stay-none : (n : ℕ) (a : List Float) (i j : ℕ) → factorColumns n a i j none ≡ none
-unfolding factorColumns
+unfolding factorColumns factorEntry
 columns-stay-none n a i zero = refl
 columns-stay-none n a i (suc j) = rw (columns-stay-none n a i j)
 

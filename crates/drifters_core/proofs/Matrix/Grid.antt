@@ -1,23 +1,20 @@
 -- Rows and columns in a flat list. Assumes nothing.
 use mathlib.Core.Path.{_≡_, refl, sym, ap, _∙_, subst}
-use Prim.Native.Nat.{ℕ, zero, suc, _+_, _-_, _*_, _/_, _%_, _≤_, _<_}
-use native.Mathlib.Nat.{eq-zero-or-pos, mul-zero, not-suc-le-zero, add-assoc, zero-mul, le-trans, le-of-lt, lt-of-le-of-lt, mul-le-mul-right, mul-add-div-right, mul-add-mod-self-right, mod-eq-of-lt, div-eq-of-lt, add-zero, suc-mul, add-comm, div-lt-iff-lt-mul, mod-lt, div-add-mod'}
-use native.Mathlib.Omega.{arith}
-use lib.Ieee.{Float, nan}
-use lib.ListN.{length, getD}
-use mathlib.Core.List.{List}
-use Rattle.drifters_core.specs.Matrix.{tab}
-use Rattle.drifters_core.specs.Matrix.{matrix, at}
-use mathlib.Core.Logic.{_⊎_, inl, inr, ⊎-elim}
 use mathlib.Core.Bool.{Bool, true, false}
-use lib.Dec.{ltb}
-use borrow.Author.Tests.{ltb-true, ltb-false}
-use mathlib.Core.List.{_++_}
+use mathlib.Core.List.{List}
+use mathlib.Core.Logic.{_⊎_, inl, inr, ⊎-elim}
+use Prim.Native.Nat.{ℕ, _+_, _-_, _*_, _/_, _%_, _≤_, _<_}
+use native.Mathlib.Nat.{eq-zero-or-pos, mul-zero, not-suc-le-zero, add-assoc, zero-mul, mul-le-mul-right, mul-add-div-right, mul-add-mod-self-right, mod-eq-of-lt, div-eq-of-lt, add-zero, suc-mul, div-lt-iff-lt-mul, mod-lt, div-add-mod'}
 use native.Mathlib.Numerals.{add-one}
-use lib.ListN.{take, drop, length-take, length-drop, set, replicate, length-replicate, getD-replicate}
-use lib.Seq.{getD-take, getD-drop, drop-at}
+use native.Mathlib.Omega.{arith}
+use borrow.Author.Tests.{ltb-true, ltb-false}
 use borrow.Rule.Slice.PartMut.{putMid}
-use Rattle.drifters_core.proofs.Matrix.Tab.{Filled, filled-none, filled-set, getD-tab, length-tab, tab-is, tab-ext, front, front-part, front-length, front-zero, step-done}
+use lib.Dec.{ltb}
+use lib.Ieee.{Float, nan}
+use lib.ListN.{length, getD, take, drop, set, length-take, length-drop}
+use lib.Seq.{getD-take, getD-drop, drop-at}
+use Rattle.drifters_core.specs.Matrix.{tab, matrix, at}
+use Rattle.drifters_core.proofs.Matrix.Tab.{Filled, filled-none, filled-set, getD-tab, length-tab, tab-is, tab-ext, front, front-part, front-zero, step-done}
 
 -- row i of r rows of c lies within r * c
 pub row-in : (i r c : ℕ) → i < r → i * c + c ≤ r * c

@@ -218,10 +218,7 @@ pub(crate) fn amax_of(m: &[f64], n: usize) -> f64
 {
     let mut largest = 0.0;
     for k in 0..n {
-        let a = abs(m[k]);
-        if a > largest {
-            largest = a;
-        }
+        largest = larger(largest, m[k]);
     }
     largest
 }
