@@ -10,3 +10,4 @@ pub mod Block
 pub mod Mirror
 pub mod Factor
 pub mod Substitution
+pub mod Theorems

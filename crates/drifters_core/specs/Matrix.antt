@@ -1,5 +1,6 @@
 -- Port of math/matrix.rs, for all dimensions: a matrix is the flat list of its entries, row by row. Definitions only.
-use Prim.Native.Nat.{ℕ, zero, suc, _+_, _-_, _*_, _/_, _%_}
+use Prim.Native.Nat.{ℕ, zero, suc, _+_, _-_, _*_, _/_, _%_, _≤_, _<_}
+use mathlib.Core.Path.{_≡_}
 use mathlib.Core.Bool.{Bool, true, false, not, _&&_, _||_, cond}
 use mathlib.Core.List.{List, [], _∷_, _++_}
 use lib.Dec.{eqb, leb, ltb}
@@ -202,3 +203,13 @@ rowTimes m i v = at 3 m i 0 ⊗ v .x ⊕ at 3 m i 1 ⊗ v .y ⊕ at 3 m i 2 ⊗ 
 -- the 3 by 3 matrix m times v
 unfoldable pub mulMat3Vec3 : Mat3 → Vec3 → Vec3
 mulMat3Vec3 m v = record { x = rowTimes (m .«data») 0 v; y = rowTimes (m .«data») 1 v; z = rowTimes (m .«data») 2 v }
+
+-- the factorisation reads the lower triangle only
+abbrev pub LowerOnly : Type 0
+LowerOnly =
+    (n : ℕ) (a b : List Float) → ((i j : ℕ) → i < n → j ≤ i → at n a i j ≡ at n b i j) → cholesky n a ≡ cholesky n b
+
+-- mirrored entries of a symmetrized matrix are one number
+abbrev pub Mirrored : Type 0
+Mirrored =
+    (n : ℕ) (m : List Float) (i j : ℕ) → i < n → j < n → at n (symmetrize n m) i j ≡ at n (symmetrize n m) j i
