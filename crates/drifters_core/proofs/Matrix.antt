@@ -5,9 +5,6 @@ pub mod Elements
 pub mod Sums
 pub mod Columns
 pub mod Place
-pub mod SubTerms
 pub mod Block
 pub mod Mirror
-pub mod Factor
-pub mod Substitution
 pub mod Theorems

@@ -10,8 +10,6 @@ use Rattle.drifters_real.specs.Scalar.{_⊕_, _⊖_, _⊗_, _⊘_, plusZero, on
 use Rattle.drifters_real.specs.Real.{sqrt, abs, isFinite}
 use Rattle.drifters_core.specs.declared.math.vec3.Vec3.{Vec3}
 use Rattle.drifters_core.specs.declared.math.shapes.Mat3.{Mat3}
-use Rattle.drifters_core.specs.declared.math.shapes.Cholesky3.{Cholesky3}
-use Rattle.drifters_core.specs.declared.math.shapes.Factored3.{Factored3}
 
 -- f 0, f 1, .., f (n - 1)
 unfoldable pub tab : ℕ → (ℕ → Float) → List Float
@@ -147,15 +145,6 @@ factorRows n a (suc i) = factorColumns n a i (suc i) (factorRows n a i)
 -- the lower factor of the n by n matrix a, of which the lower triangle is read; none at the first bad pivot
 unfoldable pub cholesky : ℕ → List Float → Factor
 cholesky n a = factorRows n a n
-
--- the answer for 3 by 3 matrices: the factor, or that the matrix is not positive definite, and zeros
-abbrev pub answer3 : Factor → Factored3
-answer3 none = record { definite = false; factor = record { lower = record { «data» = zeros 9 } } }
-answer3 (lower l) = record { definite = true; factor = record { lower = record { «data» = l } } }
-
--- what the factorisation of a 3 by 3 matrix answers
-unfoldable pub factored3 : List Float → Factored3
-factored3 a = answer3 (cholesky 3 a)
 
 -- the n by c matrix x with row i replaced by f
 unfoldable pub setRow : ℕ → ℕ → ℕ → (ℕ → Float) → List Float → List Float

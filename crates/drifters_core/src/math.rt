@@ -1,4 +1,5 @@
 // Vectors, matrices and quaternions.
+pub mod lent;
 pub mod matrix;
 pub mod quat;
 pub mod shapes;

@@ -2,10 +2,14 @@
 ghost use mathlib.Core.Path.{_≡_};
 ghost use Rattle.drifters_real.specs.Real.{sqrt, sin, cos};
 ghost use Rattle.drifters_core.specs.Vec3.{fromArray, toArray, normalized, amaxVec3};
-ghost use Rattle.drifters_core.specs.Matrix.{matmul, mulTranspose, symmetrize, amax, factored3, solve};
+ghost use Rattle.drifters_core.specs.Matrix.{matmul, mulTranspose, symmetrize, amax, solve};
+ghost use Rattle.drifters_cholesky.specs.Cholesky.{factored3};
 ghost use Rattle.drifters_core.specs.Quat.{fromRotationVector, toDcm};
+use drifters_cholesky::math::cholesky::Cholesky3;
+use drifters_core::math::lent::matmul21;
+use drifters_core::math::lent::mul_transpose21;
+use drifters_core::math::lent::symmetrize21;
 use drifters_core::math::quat::Quat;
-use drifters_core::math::shapes::Cholesky3;
 use drifters_core::math::shapes::Mat3;
 use drifters_core::math::shapes::Mat3x21;
 use drifters_core::math::shapes::Mat6;
@@ -98,9 +102,7 @@ pub extern "C" fn drifters_matmul_6_6_1(a: &[f64; 36], b: &[f64; 6], out: &mut [
 pub extern "C" fn drifters_matmul_21_21_21(a: &[f64; 441], b: &[f64; 441], out: &mut [f64; 441])
     ensures { λ _. ⌜ now (out .exit) ≡ matmul 21 21 21 (now (a .entry)) (now (b .entry)) ⌝ }
 {
-    let p = Mat21 { data: *a }.matmul(Mat21 { data: *b });
-    let d = p.data;
-    *out = d;
+    matmul21(a, b, out);
 }
 
 #[no_mangle]
@@ -156,9 +158,7 @@ pub extern "C" fn drifters_mul_transpose_21_21_21(
 )
     ensures { λ _. ⌜ now (out .exit) ≡ mulTranspose 21 21 21 (now (a .entry)) (now (b .entry)) ⌝ }
 {
-    let p = Mat21 { data: *a }.mul_transpose(Mat21 { data: *b });
-    let d = p.data;
-    *out = d;
+    mul_transpose21(a, b, out);
 }
 
 #[no_mangle]
@@ -202,12 +202,10 @@ pub extern "C" fn drifters_mul_transpose_3_1_3(a: &[f64; 3], b: &[f64; 3], out: 
 }
 
 #[no_mangle]
-pub extern "C" fn drifters_symmetrize21(m: &[f64; 441], out: &mut [f64; 441])
-    ensures { λ _. ⌜ now (out .exit) ≡ symmetrize 21 (now (m .entry)) ⌝ }
+pub extern "C" fn drifters_symmetrize21(m: &mut [f64; 441])
+    ensures { λ _. ⌜ now (m .exit) ≡ symmetrize 21 (now (m .entry)) ⌝ }
 {
-    let s = Mat21 { data: *m }.symmetrize();
-    let d = s.data;
-    *out = d;
+    symmetrize21(m);
 }
 
 #[no_mangle]

@@ -16,7 +16,7 @@ extern "C" {
     fn drifters_normalized(v: &[f64; 3], out: &mut [f64; 3]);
     fn drifters_amax(v: &[f64; 3]) -> f64;
     fn drifters_rotation(phi: &[f64; 3], q: &mut [f64; 4], dcm: &mut [f64; 9]);
-    fn drifters_symmetrize21(m: &Flat21, out: &mut Flat21);
+    fn drifters_symmetrize21(m: &mut Flat21);
     fn drifters_amax21(m: &Flat21) -> f64;
     fn drifters_cholesky3(a: &[f64; 9], lower: &mut [f64; 9]) -> bool;
     fn drifters_solve3(lower: &[f64; 9], b: &[f64; 63], out: &mut [f64; 63]);
@@ -165,10 +165,10 @@ fn compare_all() -> u32 {
     wrong += products();
     wrong += compare("Matrix::symmetrize", 100_000, |n, damaged| {
         let m: Flat21 = n.array(damaged);
-        let mut out = [0.0; 441];
-        unsafe { drifters_symmetrize21(&m, &mut out) };
         let mut original: Mat21 = rows(&m);
         original.symmetrize();
+        let mut out = m;
+        unsafe { drifters_symmetrize21(&mut out) };
         all_same(&out, original.data.as_flattened())
     });
     wrong += compare("Matrix::amax", 100_000, |n, damaged| {
@@ -267,7 +267,7 @@ fn time_all() -> u32 {
         "symmetrize",
         f64::INFINITY,
         2000,
-        || unsafe { drifters_symmetrize21(black_box(&a), black_box(&mut out)) },
+        || unsafe { drifters_symmetrize21(black_box(&mut out)) },
         || black_box(&mut z).symmetrize(),
     );
     slow += time(

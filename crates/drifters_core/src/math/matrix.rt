@@ -6,10 +6,9 @@ ghost use lib.Dec.{leb};
 ghost use lib.ListN.{length, getD};
 ghost use lib.Ieee.{nan};
 ghost use Rattle.drifters_real.specs.Scalar.{_⊕_, _⊗_};
-ghost use Rattle.drifters_core.specs.Matrix.{tab, at, matrix, zeros, transpose, sumTerms, matmul, mulTranspose, scaled, setBlock, block, allFinite, amax, fromDiagonal, diagonal, symmetrize, none, lower, cholesky, forward, back, solve, addMatrix, subMatrix, negMatrix, larger};
+ghost use Rattle.drifters_core.specs.Matrix.{tab, at, matrix, zeros, transpose, sumTerms, matmul, mulTranspose, scaled, setBlock, block, allFinite, amax, fromDiagonal, diagonal, symmetrize, addMatrix, subMatrix, negMatrix, larger};
 use drifters_real::math::real::abs;
 use drifters_real::math::real::is_finite;
-use drifters_real::math::real::sqrt;
 
 // The r by c matrix `m`, transposed into `out`.
 pub(crate) fn transpose_into(m: &[f64], out: &mut [f64], r: usize, c: usize)
@@ -255,75 +254,6 @@ pub(crate) fn symmetrize_in(m: &mut [f64], n: usize)
             m[j * n + i] = v;
         }
     }
-}
-
-// The lower factor of the n by n matrix `a`, of which the lower triangle is read, into `l`, which is all zeros. False at the first
-// bad pivot: one that is not finite, or at most 0.
-pub(crate) fn cholesky_into(a: &[f64], l: &mut [f64], n: usize) -> bool
-    requires { ⌜ (length (now a) ≡ n * n) × (now l ≡ zeros (n * n)) ⌝ }
-    ensures { λ r. ⌜ cholesky n (now (a .entry)) ≡ cond r (lower (now (l .exit))) none ⌝ }
-{
-    let mut definite = true;
-    'rows: for i in 0..n {
-        'columns: for j in 0..i + 1 {
-            let mut sum = a[i * n + j];
-            for k in 0..j {
-                sum = sum - l[i * n + k] * l[j * n + k];
-            }
-            if i == j {
-                if !is_finite(sum) || sum <= 0.0 {
-                    definite = false;
-                    break 'rows;
-                }
-                l[i * n + j] = sqrt(sum);
-            } else {
-                l[i * n + j] = sum / l[j * n + j];
-            }
-        }
-    }
-    definite
-}
-
-// Forward substitution: L Y = B, the n by c matrix `x` from B to Y.
-fn forward_in(l: &[f64], x: &mut [f64], n: usize, c: usize)
-    requires { ⌜ (length (now l) ≡ n * n) × (length (now x) ≡ n * c) ⌝ }
-    ensures { λ _. ⌜ now (x .exit) ≡ forward n c (now (l .entry)) (now (x .entry)) n ⌝ }
-{
-    for i in 0..n {
-        for j in 0..c {
-            let mut sum = x[i * c + j];
-            for k in 0..i {
-                sum = sum - l[i * n + k] * x[k * c + j];
-            }
-            x[i * c + j] = sum / l[i * n + i];
-        }
-    }
-}
-
-// Back substitution: Lᵀ X = Y, the n by c matrix `x` from Y to X.
-fn back_in(l: &[f64], x: &mut [f64], n: usize, c: usize)
-    requires { ⌜ (length (now l) ≡ n * n) × (length (now x) ≡ n * c) ⌝ }
-    ensures { λ _. ⌜ now (x .exit) ≡ back n c (now (l .entry)) (now (x .entry)) n ⌝ }
-{
-    for p in 0..n {
-        let i = n - 1 - p;
-        for j in 0..c {
-            let mut sum = x[i * c + j];
-            for k in i + 1..n {
-                sum = sum - l[k * n + i] * x[k * c + j];
-            }
-            x[i * c + j] = sum / l[i * n + i];
-        }
-    }
-}
-
-// The n by c matrix `x` from B to the solution of A X = B, with the factor `l` of A.
-pub(crate) fn solve_in(l: &[f64], x: &mut [f64], n: usize, c: usize)
-    requires { ⌜ (length (now l) ≡ n * n) × (length (now x) ≡ n * c) ⌝ }
-    ensures { λ _. ⌜ now (x .exit) ≡ solve n c (now (l .entry)) (now (x .entry)) ⌝ }
-{
-    forward_in(l, x, n, c);
-    back_in(l, x, n, c);
 }
 
 // Each of the n entries of `m` plus that of `b`.

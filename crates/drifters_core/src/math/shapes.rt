@@ -1,12 +1,11 @@
 // The shapes of matrix in use: for each a record with one flat array, by value. A method calls the function of matrix.rt at its dimensions.
 ghost use mathlib.Core.Path.{_≡_};
-ghost use Rattle.drifters_core.specs.Matrix.{zeros, transpose, matmul, mulTranspose, scaled, setBlock, block, allFinite, amax, fromDiagonal, identity, diagonal, symmetrize, factored3, solve, addMatrix, subMatrix, negMatrix, mulMat3Vec3};
+ghost use Rattle.drifters_core.specs.Matrix.{zeros, transpose, matmul, mulTranspose, scaled, setBlock, block, allFinite, amax, fromDiagonal, identity, diagonal, symmetrize, addMatrix, subMatrix, negMatrix, mulMat3Vec3};
 ghost use Rattle.drifters_core.specs.Vec3.{toArray};
 use crate::math::matrix::add_in;
 use crate::math::matrix::all_finite;
 use crate::math::matrix::amax_of;
 use crate::math::matrix::block_into;
-use crate::math::matrix::cholesky_into;
 use crate::math::matrix::diagonal_into;
 use crate::math::matrix::from_diagonal_in;
 use crate::math::matrix::matmul_into;
@@ -14,7 +13,6 @@ use crate::math::matrix::mul_transpose_into;
 use crate::math::matrix::neg_in;
 use crate::math::matrix::scale_in;
 use crate::math::matrix::set_block_in;
-use crate::math::matrix::solve_in;
 use crate::math::matrix::sub_in;
 use crate::math::matrix::symmetrize_in;
 use crate::math::matrix::transpose_into;
@@ -483,60 +481,5 @@ impl Vector3 {
         let mut data = [0.0; 9];
         mul_transpose_into(&self.data, &rhs.data, &mut t, &mut row, &mut data, 3, 1, 3);
         Mat3 { data }
-    }
-}
-
-// The Cholesky factorisation A = L Lᵀ of a 3 by 3 matrix.
-pub struct Cholesky3 {
-    pub lower: Mat3,
-}
-
-// What the factorisation answers: the factor, or that the matrix is not positive definite, and a factor of zeros.
-pub struct Factored3 {
-    pub definite: bool,
-    pub factor: Cholesky3,
-}
-
-impl Cholesky3 {
-    pub fn new(a: Mat3) -> Factored3
-        ensures { λ r. ⌜ r ≡ factored3 (a .data) ⌝ }
-    {
-        let mut l = [0.0; 9];
-        if cholesky_into(&a.data, &mut l, 3) {
-            let lower = Mat3 { data: l };
-            let factor = Cholesky3 { lower };
-            Factored3 {
-                definite: true,
-                factor,
-            }
-        } else {
-            let zeros = [0.0; 9];
-            let lower = Mat3 { data: zeros };
-            let factor = Cholesky3 { lower };
-            Factored3 {
-                definite: false,
-                factor,
-            }
-        }
-    }
-
-    // The solution of A X = B.
-    pub fn solve(self, b: Mat3x21) -> Mat3x21
-        ensures { λ r. ⌜ r .data ≡ solve 3 21 (self .lower .data) (b .data) ⌝ }
-    {
-        let l = self.lower;
-        let mut data = b.data;
-        solve_in(&l.data, &mut data, 3, 21);
-        Mat3x21 { data }
-    }
-
-    // The solution of A x = b.
-    pub fn solve_vector(self, b: Vector3) -> Vector3
-        ensures { λ r. ⌜ r .data ≡ solve 3 1 (self .lower .data) (b .data) ⌝ }
-    {
-        let l = self.lower;
-        let mut data = b.data;
-        solve_in(&l.data, &mut data, 3, 1);
-        Vector3 { data }
     }
 }

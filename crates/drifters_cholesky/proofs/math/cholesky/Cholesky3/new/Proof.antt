@@ -1,8 +1,8 @@
 -- `Cholesky3::new` meets its contract.
 use borrow.Author.Needs.{needs}
-use Rattle.drifters_core.specs.Matrix.{factored3}
-use Rattle.drifters_core.proofs.math.shapes.Cholesky3.new.Statement.{statement}
-use Rattle.drifters_core.proofs.math.shapes.Cholesky3.new.Tie as tie
+use Rattle.drifters_cholesky.specs.Cholesky.{factored3}
+use Rattle.drifters_cholesky.proofs.math.cholesky.Cholesky3.new.Statement.{statement}
+use Rattle.drifters_cholesky.proofs.math.cholesky.Cholesky3.new.Tie as tie
 
 returns : tie.Need-returns
 unfolding factored3

@@ -6,13 +6,13 @@ use Prim.Native.Nat.{ℕ, _+_, _*_, _-_, _≤_}
 use native.Mathlib.Omega.{arith}
 use borrow.Author.Needs.{needs}
 use lib.ListN.{length, set, length-set, length-replicate}
 use Rattle.drifters_core.specs.Matrix.{at, none, lower, cholesky, factorRows, factorColumns, subTerms, reduced}
 use Rattle.drifters_core.proofs.Matrix.Place.{Place}
 use Rattle.drifters_core.proofs.Matrix.Grid.{row-in}
-use Rattle.drifters_core.proofs.Matrix.SubTerms.{sub-step}
-use Rattle.drifters_core.proofs.Matrix.Factor.{not-finite-bad, finite-bad, stop, pivot, quotient, factor-rows-next, stops}
-use Rattle.drifters_core.proofs.math.matrix.cholesky_into.Statement.{statement}
-use Rattle.drifters_core.proofs.math.matrix.cholesky_into.Tie as tie
+use Rattle.drifters_cholesky.proofs.SubTerms.{sub-step}
+use Rattle.drifters_cholesky.proofs.Factor.{not-finite-bad, finite-bad, stop, pivot, quotient, factor-rows-next, stops}
+use Rattle.drifters_cholesky.proofs.math.cholesky.cholesky_into.Statement.{statement}
+use Rattle.drifters_cholesky.proofs.math.cholesky.cholesky_into.Tie as tie
 
 abbrev Inv-loop : tie.InvT-loop
 Inv-loop a l n definite i j sum₀ k₀ j-end sum k = (k ≤ j) × (j * n + n ≤ n * n) × (sum ≡ subTerms (at n a i j) (at n l i) (at n l j) k)

@@ -13,9 +13,9 @@ use lib.Dec.{eqb}
 use lib.ListN.{length, getD, set}
 use lib.Seq.{getD-set-same, getD-set-other}
 use lib.Ieee.{Float, nan}
 use Rattle.drifters_core.specs.Matrix.{at, subTerms, setRow, forwardRow, forward, backRow, back}
 use Rattle.drifters_core.proofs.Matrix.Grid.{row-in, lt-or-le, matrix-is}
-use Rattle.drifters_core.proofs.Matrix.SubTerms.{sub-ext}
+use Rattle.drifters_cholesky.proofs.SubTerms.{sub-ext}
 
 -- x is o, a matrix of c columns, with the first j entries of row i replaced by those of f
 pub record RowReplaced (c i : ℕ) (f : ℕ → Float) (o : List Float) (j : ℕ) (x : List Float) : Type 0 where

@@ -1,8 +1,8 @@
 -- `solve_in` meets its contract. Assumes nothing.
 use borrow.Author.Needs.{needs}
 use Rattle.drifters_core.specs.Matrix.{solve}
-use Rattle.drifters_core.proofs.math.matrix.solve_in.Statement.{statement}
-use Rattle.drifters_core.proofs.math.matrix.solve_in.Tie as tie
+use Rattle.drifters_cholesky.proofs.math.cholesky.solve_in.Statement.{statement}
+use Rattle.drifters_cholesky.proofs.math.cholesky.solve_in.Tie as tie
 
 returns : tie.Need-returns
 unfolding solve

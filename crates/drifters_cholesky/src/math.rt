@@ -1,0 +1,2 @@
+// Factoring and solving.
+pub mod cholesky;
