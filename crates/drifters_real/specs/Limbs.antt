@@ -14,7 +14,6 @@ pub record IsWholeRoot (n r : ℕ) : Type 0 where
 
 -- the root of an n below 4 ^ 53, to the nearest whole number
 unfoldable pub nearestRoot : ℕ → ℕ
-unfolding wholeRoot
 nearestRoot n = let q = wholeRoot 53 n in nearest q (compare (4 * n) ((2 * q + 1) * (2 * q + 1)))
 
 -- r is the bit pattern of the root of what b is the pattern of

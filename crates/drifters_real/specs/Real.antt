@@ -36,7 +36,6 @@ wholeRoot (suc k) n = let r = 2 * wholeRoot k (n / 4) in cond (leb ((r + 1) * (r
 -- Of its whole part the format keeps 53 digits, q, and drops k. Between q * 2 ^ k and (q + 1) * 2 ^ k the middle is (2 * q + 1) * 2 ^ k / 2:
 -- q moves up by one where four times N is above the square of (2 * q + 1) * 2 ^ k, and at a tie to the even one.
 unfoldable pub sqrtUnits : ℕ → Float
-unfolding wholeRoot size units
 sqrtUnits n =
     let N = n * 2 ^ 1074 in
     let k = (size N + 1) / 2 - 53 in
@@ -45,7 +44,6 @@ sqrtUnits n =
 
 -- the square root: of -0 it is -0, of +inf +inf, and of a number below 0 not a number
 unfoldable pub sqrt : Float → Float
-unfolding sqrtUnits smallestValues
 sqrt nan = nan
 sqrt (inf true) = nan
 sqrt (inf false) = inf false
@@ -67,27 +65,22 @@ factorial (suc n) = suc n * factorial n
 
 -- (a / b) ^ j / j! is power n a b j / (b ^ n * n!), for every j up to n
 unfoldable pub power : ℕ → ℕ → ℕ → ℕ → ℕ
-unfolding factorial
 power n a b j = a ^ j * b ^ (n - j) * (factorial n / factorial j)
 
 -- the sine through the power 63 is (exactSinPlus - exactSinMinus) / (b ^ 63 * 63!): the terms that are added
 unfoldable pub exactSinPlus : ℕ → ℕ → ℕ
-unfolding sumOf power
 exactSinPlus a b = sumOf (λ i. power 63 a b (4 * i + 1)) 16
 
 -- and those that are taken off
 unfoldable pub exactSinMinus : ℕ → ℕ → ℕ
-unfolding sumOf power
 exactSinMinus a b = sumOf (λ i. power 63 a b (4 * i + 3)) 16
 
 -- the cosine through the power 62 is (exactCosPlus - exactCosMinus) / (b ^ 62 * 62!): the terms that are added
 unfoldable pub exactCosPlus : ℕ → ℕ → ℕ
-unfolding sumOf power
 exactCosPlus a b = sumOf (λ i. power 62 a b (4 * i)) 16
 
 -- and those that are taken off
 unfoldable pub exactCosMinus : ℕ → ℕ → ℕ
-unfolding sumOf power
 exactCosMinus a b = sumOf (λ i. power 62 a b (4 * i + 2)) 16
 
 -- ---- the rule that fixes the bits of sine and cosine
@@ -107,37 +100,30 @@ term x (suc k) = term x k * x / (2 ^ 64 * ((2 * k + 2) * (2 * k + 3)))
 
 -- the sine over the angle is sincPlus - sincMinus units of 2 ^ -64: the terms that are added
 unfoldable pub sincPlus : ℕ → ℕ
-unfolding sumOf term
 sincPlus x = sumOf (λ i. term x (2 * i)) 16
 
 -- and those that are taken off
 unfoldable pub sincMinus : ℕ → ℕ
-unfolding sumOf term
 sincMinus x = sumOf (λ i. term x (2 * i + 1)) 16
 
 -- the cosine is cosPlus - cosMinus units of 2 ^ -64: the terms that are added
 unfoldable pub cosPlus : ℕ → ℕ
-unfolding sumOf term
 cosPlus x = sumOf (λ i. (4 * i + 1) * term x (2 * i)) 16
 
 -- and those that are taken off
 unfoldable pub cosMinus : ℕ → ℕ
-unfolding sumOf term
 cosMinus x = sumOf (λ i. (4 * i + 3) * term x (2 * i + 1)) 16
 
 -- the f64 nearest to p - n units of 2 ^ -54
 unfoldable pub difference : ℕ → ℕ → Float
-unfolding round
 difference p n = round binary64 (ltb p n) (p - n + (n - p)) (2 ^ 54)
 
 -- the sine over the angle, for the angle's square x: both sums cut to units of 2 ^ -54
 unfoldable pub sincOfSquare : ℕ → Float
-unfolding difference sincPlus sincMinus
 sincOfSquare x = difference (sincPlus x / 2 ^ 10) (sincMinus x / 2 ^ 10)
 
 -- the cosine, for the angle's square x: both sums cut to units of 2 ^ -54
 unfoldable pub cosOfSquare : ℕ → Float
-unfolding difference cosPlus cosMinus
 cosOfSquare x = difference (cosPlus x / 2 ^ 10) (cosMinus x / 2 ^ 10)
 
 -- 8.0: sine and cosine are for angles from 0 to this one
@@ -146,17 +132,14 @@ angleLimit = ofBits binary64 0x4020_0000_0000_0000
 
 -- whether an angle is one of those
 unfoldable pub inRange : Float → Bool
-unfolding le
 inRange x = le plusZero x && le x angleLimit
 
 -- the sine; outside the range not a number
 unfoldable pub sin : Float → Float
-unfolding inRange angle square sincOfSquare
 sin x = cond (inRange x) (x ⊗ sincOfSquare (square (angle x))) nan
 
 -- the cosine; outside the range not a number
 unfoldable pub cos : Float → Float
-unfolding inRange angle square cosOfSquare
 cos x = cond (inRange x) (cosOfSquare (square (angle x))) nan
 
 -- both, as `sin_cos` returns them
@@ -173,12 +156,10 @@ abs (fin s m e) = fin false m e
 
 -- f64::max: the larger; where one is not a number, the other
 unfoldable pub max : Float → Float → Float
-unfolding lt isNan
 max a b = cond (lt a b) b (cond (isNan a) b a)
 
 -- f64::clamp: x brought up to low, and then down to high; what is not a number stays
 unfoldable pub clamp : Float → Float → Float → Float
-unfolding lt
 clamp x low high = let y = cond (lt x low) low x in cond (lt high y) high y
 
 -- f64::is_finite: neither an infinity nor not a number

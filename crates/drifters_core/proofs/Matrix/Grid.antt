@@ -12,7 +12,6 @@ use borrow.Rule.Slice.PartMut.{putMid}
 use lib.Dec.{ltb}
 use lib.Ieee.{Float, nan}
 use lib.ListN.{length, getD, take, drop, set, length-take, length-drop}
-use lib.Seq.{getD-take, getD-drop, drop-at}
 use Rattle.drifters_core.specs.Matrix.{tab, matrix, at}
 use Rattle.drifters_core.proofs.Matrix.Tab.{Filled, filled-none, filled-set, getD-tab, length-tab, tab-is, tab-ext, front, front-part, front-zero, step-done}
 
@@ -60,10 +59,6 @@ row-step f i c o {l} {y} e q =
 -- the row that is lent
 pub row-length : (p c : ℕ) (l : List Float) → p + c ≤ length l → length (take (p + c - p) (drop p l)) ≡ c
 row-length p c l h = rw part-size (simp (length-take, length-drop) (omega arith))
-
-pub row-get : (p c : ℕ) (f : ℕ → Float) (o : List Float) {l : List Float} (j : ℕ) → l ≡ front p f o → j < c → getD (take (p + c - p) (drop p l)) j nan ≡ getD o (p + j) nan
-row-get p c f o {l} j e h =
-    rw (part-size p c, e, drop-at (tab p f) (drop p o) p (length-tab p f), getD-take c (drop p o) j nan h) (getD-drop p o j nan)
 
 -- where a loop over the rows begins, and where it ends
 pub rows-none : (f : ℕ → Float) (c : ℕ) (o : List Float) → o ≡ front (0 * c) f o

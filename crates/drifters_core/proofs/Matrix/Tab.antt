@@ -2,12 +2,12 @@
 use mathlib.Core.Path.{_≡_, refl, sym, ap, _∙_, subst}
 use mathlib.Core.List.{List, [], _∷_, _++_, append-assoc, append-nil}
 use mathlib.Core.Logic.{⊎-elim}
-use Prim.Native.Nat.{ℕ, zero, suc, _+_, _≤_, _<_}
+use Prim.Native.Nat.{ℕ, zero, suc, _+_, _<_}
 use native.Mathlib.Nat.{le-of-suc-le-suc, not-suc-le-zero, eq-or-lt-of-le, add-zero, add-suc}
 use native.Mathlib.Numerals.{add-one}
 use native.Mathlib.Omega.{arith}
 use borrow.Author.Count.{below-none, below-more}
-use lib.ListN.{length, getD, take, drop, set, length-append, length-drop, List·getD-append, replicate, length-replicate, getD-replicate}
+use lib.ListN.{length, getD, take, drop, set, length-append, List·getD-append, replicate, length-replicate, getD-replicate}
 use lib.Seq.{getD-set-same, getD-set-other, getD-at, set-at, drop-cons, append-snoc, ext-getD, getD-append-add, getD-drop, drop-length, drop-drop, take-at, drop-at}
 use lib.Ieee.{Float, nan}
 use Rattle.drifters_core.specs.Matrix.{tab}
@@ -49,9 +49,6 @@ front p f o = tab p f ++ drop p o
 pub front-zero : (f : ℕ → Float) (o : List Float) → front 0 f o ≡ o
 unfolding tab
 front-zero f o = refl
-
-pub front-length : (p : ℕ) (f : ℕ → Float) (o : List Float) → p ≤ length o → length (front p f o) ≡ length o
-front-length p f o h = simp (length-append, length-tab, length-drop) (omega arith)
 
 pub front-all : (f : ℕ → Float) (o : List Float) → front (length o) f o ≡ tab (length o) f
 front-all f o = rw drop-length (append-nil (tab (length o) f))

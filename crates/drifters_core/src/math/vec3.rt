@@ -1,6 +1,6 @@
 // Port of math/vec3.rs: three-element column vectors, by value. The operators are named functions.
 ghost use mathlib.Core.Path.{_≡_};
-ghost use Rattle.drifters_core.specs.Vec3.{zeroVec3, vec3, splat, fromArray, toArray, dot, cross, norm, normSquared, normalized, componentMul, componentDiv, squared, skew, toDiag, finiteVec3, amaxVec3, addVec3, subVec3, negVec3, mulVec3, divVec3};
+ghost use Rattle.drifters_core.specs.Vec3.{vec3, splat, fromArray, toArray, dot, cross, norm, normSquared, normalized, componentMul, componentDiv, squared, skew, toDiag, finiteVec3, amaxVec3, addVec3, subVec3, negVec3, mulVec3, divVec3};
 use crate::math::matrix::larger;
 use crate::math::shapes::Mat3;
 use drifters_real::math::real::abs;

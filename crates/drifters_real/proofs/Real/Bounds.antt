@@ -8,11 +8,11 @@ use native.Mathlib.Omega.{arith}
 use mathlib.Core.Bool.{Bool, true, false}
 use lib.IntN.{ℤ, pos}
 use lib.Dec.{T, lit<, lit≤}
-use lib.Ieee.{Float, nan, inf, fin, binary64, up, down, round, mul, ofBits}
+use lib.Ieee.{Float, nan, inf, fin, binary64, up, down, round, le, mul, ofBits}
 use lib.Ieee.Bits.{is-true}
 use lib.Ieee.Fits.{down-pos}
 use lib.Ieee.Exact.{HasValue}
-use Rattle.drifters_real.specs.Real.{factorial, exactSinPlus, exactSinMinus, exactCosPlus, exactCosMinus, numerator, denominator, angle, square, sincPlus, sincMinus, cosPlus, cosMinus, sincOfSquare, cosOfSquare, inRange, sin, isFinite, Within, CosineBound, SineBound}
+use Rattle.drifters_real.specs.Real.{sumOf, factorial, power, term, difference, exactSinPlus, exactSinMinus, exactCosPlus, exactCosMinus, numerator, denominator, angle, square, sincPlus, sincMinus, cosPlus, cosMinus, sincOfSquare, cosOfSquare, inRange, sin, isFinite, Within, CosineBound, SineBound}
 use Rattle.drifters_real.specs.Limbs.{squareLimit}
 use Rattle.drifters_real.proofs.Real.Rounding.{Fit, fit-of}
 use Rattle.drifters_real.proofs.Real.Terms.{Between}
@@ -48,7 +48,7 @@ module _ (X a b x : ℕ) (c : Computed X) (s : SquareNear a b x) (small : x ≤ 
 
 -- ---- where the square is 0
 one-is : sincOfSquare 0 ≡ fin false 1 (pos 0)
-unfolding sincOfSquare
+unfolding sincOfSquare difference sincPlus sincMinus sumOf term round
 one-is = refl
 
 times-one : (m : ℕ) (e : ℤ) → mul binary64 (fin false m e) (fin false 1 (pos 0)) ≡ round binary64 false (m * up e * (1 * 1)) (down e * 1)
@@ -56,11 +56,11 @@ unfolding mul
 times-one m e = refl
 
 plus-0 : sincPlus 0 ≡ 2 ^ 64
-unfolding sincPlus
+unfolding sincPlus sumOf term
 plus-0 = refl
 
 minus-0 : sincMinus 0 ≡ 0
-unfolding sincMinus
+unfolding sincMinus sumOf term
 minus-0 = refl
 
 -- ---- the sine of an angle m * 2 ^ e of at most l
@@ -130,7 +130,7 @@ cosine-bound (fin s m e) f t =
 
 -- of -0 the sine is -0
 at-minus-zero : Within (sin (fin true 0 (pos 0))) (exactSinPlus 0 1) (exactSinMinus 0 1) (1 ^ 63 * factorial 63) 0 (1 * 2 ^ 50)
-unfolding sin exactSinPlus exactSinMinus isFinite ofBits mul
+unfolding sin inRange angle square sincOfSquare difference sincPlus sincMinus sumOf term exactSinPlus exactSinMinus power factorial isFinite ofBits le mul round
 at-minus-zero = record { finite = tt; over = lit≤ tt; under = lit≤ tt }
 
 pub sine-bound : SineBound

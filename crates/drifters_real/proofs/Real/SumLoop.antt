@@ -218,7 +218,7 @@ module _ (x : ℕ) (w : Wide) (i : ℕ) (count : i ≤ 16) (w-is : IsWide w (ter
   cos-minus = whole (cnTerm x) (λ j k e. ap (λ (y : ℕ). (4 * j + 3) * y) (later-odd x i j e k) ∙ mul-zero (4 * j + 3))
 
 pub at-end : (x : ℕ) (w sp sn cp cn : Wide) (i : ℕ) → x ≤ squareLimit → SumsSoFar x w sp sn cp cn i → (16 ≤ i) ⊎ (w .h + w .l ≡ 0) → AllSummed x sp sn cp cn
-unfolding sincPlus sincMinus cosPlus cosMinus
+unfolding sincPlus sincMinus cosPlus cosMinus sumOf term
 at-end x w sp sn cp cn i X g left = record {
   sin-plus = summed i sp (sumOf (spTerm x) i) (sincPlus x) (g .count) (g .sin-plus) (sinc-plus x w i (g .count) (g .term-is) left) (lt-of-le-of-lt (sincPlus-mono x squareLimit X) (lit< tt));
   sin-minus = summed i sn (sumOf (snTerm x) i) (sincMinus x) (g .count) (g .sin-minus) (sinc-minus x w i (g .count) (g .term-is) left) (lt-of-le-of-lt (sincMinus-mono x squareLimit X) (lit< tt));

@@ -1,6 +1,6 @@
 // Port of math/real.rs: square root, sine and cosine by whole numbers, and the methods of f64 that the filter uses.
 ghost use mathlib.Core.Path.{_≡_};
-ghost use Prim.Native.Nat.{ℕ, _+_, _-_, _*_, _/_, _%_, _^_, _≤_, _<_};
+ghost use Prim.Native.Nat.{_+_, _-_, _*_, _/_, _%_, _^_, _≤_, _<_};
 ghost use Rattle.drifters_real.specs.Real.{sqrt, sinCos, difference, square, abs, max, clamp, isFinite};
 ghost use Rattle.drifters_real.specs.Limbs.{IsWholeRoot, nearestRoot, IsRootPattern, value, IsWide, AreSums, squareLimit};
 

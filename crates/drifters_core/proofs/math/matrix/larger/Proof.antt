@@ -1,5 +1,4 @@
 -- `larger` meets its contract.
-use mathlib.Core.Path.{_≡_, refl, sym, ap, ap₂, _∙_}
 use Rattle.drifters_core.proofs.math.matrix.larger.Statement.{statement}
 use Rattle.drifters_core.proofs.math.matrix.larger.Tie as tie
 

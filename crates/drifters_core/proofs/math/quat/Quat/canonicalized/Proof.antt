@@ -1,5 +1,4 @@
 -- `Quat::canonicalized` meets its contract.
-use mathlib.Core.Path.{_≡_, refl, sym, ap, ap₂, _∙_}
 use Rattle.drifters_core.specs.Quat.{canonicalized}
 use Rattle.drifters_core.proofs.math.quat.Quat.canonicalized.Statement.{statement}
 use Rattle.drifters_core.proofs.math.quat.Quat.canonicalized.Tie as tie

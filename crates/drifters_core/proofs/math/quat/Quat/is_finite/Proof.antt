@@ -1,5 +1,4 @@
 -- `Quat::is_finite` meets its contract.
-use mathlib.Core.Path.{_≡_, refl, sym, ap, ap₂, _∙_}
 use Rattle.drifters_core.specs.Quat.{finiteQuat}
 use Rattle.drifters_core.proofs.math.quat.Quat.is_finite.Statement.{statement}
 use Rattle.drifters_core.proofs.math.quat.Quat.is_finite.Tie as tie

@@ -1,5 +1,4 @@
 -- `Quat::norm` meets its contract.
-use mathlib.Core.Path.{_≡_, refl, sym, ap, ap₂, _∙_}
 use Rattle.drifters_core.specs.Quat.{normQuat}
 use Rattle.drifters_core.proofs.math.quat.Quat.norm.Statement.{statement}
 use Rattle.drifters_core.proofs.math.quat.Quat.norm.Tie as tie

@@ -1,5 +1,4 @@
 -- `Quat::normalized` meets its contract.
-use mathlib.Core.Path.{_≡_, refl, sym, ap, ap₂, _∙_}
 use Rattle.drifters_core.specs.Quat.{normalizedQuat}
 use Rattle.drifters_core.proofs.math.quat.Quat.normalized.Statement.{statement}
 use Rattle.drifters_core.proofs.math.quat.Quat.normalized.Tie as tie

@@ -1,5 +1,4 @@
 -- `Quat::rotate` meets its contract.
-use mathlib.Core.Path.{_≡_, refl, sym, ap, ap₂, _∙_}
 use Rattle.drifters_core.specs.Quat.{rotate}
 use Rattle.drifters_core.proofs.math.quat.Quat.rotate.Statement.{statement}
 use Rattle.drifters_core.proofs.math.quat.Quat.rotate.Tie as tie

@@ -1,5 +1,4 @@
 -- `Quat::rotate_inverse` meets its contract.
-use mathlib.Core.Path.{_≡_, refl, sym, ap, ap₂, _∙_}
 use Rattle.drifters_core.specs.Quat.{rotateInverse}
 use Rattle.drifters_core.proofs.math.quat.Quat.rotate_inverse.Statement.{statement}
 use Rattle.drifters_core.proofs.math.quat.Quat.rotate_inverse.Tie as tie

@@ -1,5 +1,4 @@
 -- `Quat::short_rotation` meets its contract.
-use mathlib.Core.Path.{_≡_, refl, sym, ap, ap₂, _∙_}
 use Rattle.drifters_core.specs.Quat.{shortRotation}
 use Rattle.drifters_core.proofs.math.quat.Quat.short_rotation.Statement.{statement}
 use Rattle.drifters_core.proofs.math.quat.Quat.short_rotation.Tie as tie

@@ -1,5 +1,4 @@
 -- `Vec3::amax` meets its contract.
-use mathlib.Core.Path.{_≡_, refl, sym, ap, ap₂, _∙_}
 use Rattle.drifters_core.specs.Vec3.{amaxVec3}
 use Rattle.drifters_core.proofs.math.vec3.Vec3.amax.Statement.{statement}
 use Rattle.drifters_core.proofs.math.vec3.Vec3.amax.Tie as tie

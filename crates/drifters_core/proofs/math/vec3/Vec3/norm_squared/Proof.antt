@@ -1,5 +1,4 @@
 -- `Vec3::norm_squared` meets its contract.
-use mathlib.Core.Path.{_≡_, refl, sym, ap, ap₂, _∙_}
 use Rattle.drifters_core.specs.Vec3.{normSquared}
 use Rattle.drifters_core.proofs.math.vec3.Vec3.norm_squared.Statement.{statement}
 use Rattle.drifters_core.proofs.math.vec3.Vec3.norm_squared.Tie as tie

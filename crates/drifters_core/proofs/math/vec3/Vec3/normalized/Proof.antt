@@ -1,12 +1,17 @@
 -- `Vec3::normalized` meets its contract.
-use mathlib.Core.Path.{_≡_, refl, sym, ap, ap₂, _∙_}
+use mathlib.Core.Path.{_≡_}
+use mathlib.Core.Bool.{true}
+use lib.Ieee.{lt}
+use Rattle.drifters_real.specs.Scalar.{plusZero}
 use Rattle.drifters_core.specs.Vec3.{normalized}
 use Rattle.drifters_core.proofs.math.vec3.Vec3.normalized.Statement.{statement}
 use Rattle.drifters_core.proofs.math.vec3.Vec3.normalized.Tie as tie
 
 returns : tie.Need-returns
 unfolding normalized
-returns c = rw (← c .before .before .norm .ensures, c .before .if1 .taken) (c .div .ensures)
+returns c =
+    let above : lt plusZero (c .before .before .norm .result) ≡ true = c .before .if1 .taken in
+    rw (← c .before .before .norm .ensures, above) (c .div .ensures)
 
 returns-2 : tie.Need-returns-2
 unfolding normalized

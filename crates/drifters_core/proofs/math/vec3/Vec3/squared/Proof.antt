@@ -1,5 +1,4 @@
 -- `Vec3::squared` meets its contract.
-use mathlib.Core.Path.{_≡_, refl, sym, ap, ap₂, _∙_}
 use Rattle.drifters_core.specs.Vec3.{squared}
 use Rattle.drifters_core.proofs.math.vec3.Vec3.squared.Statement.{statement}
 use Rattle.drifters_core.proofs.math.vec3.Vec3.squared.Tie as tie
