@@ -1,4 +1,5 @@
--- The laws of the factorisation and of the substitutions.
+-- The laws of the factorisation and of the substitutions, and the sign law.
 pub mod SubTerms
 pub mod Factor
 pub mod Substitution
+pub mod Signs

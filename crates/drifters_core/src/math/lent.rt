@@ -1,4 +1,4 @@
-// The 21 by 21 products and `symmetrize` on lent arrays, for callers that hold no record: nothing is copied.
+// The 21 by 21 products and `symmetrize` on lent arrays: for Mat21, and for callers that hold no record and copy none.
 ghost use mathlib.Core.Path.{_≡_};
 ghost use Rattle.drifters_core.specs.Matrix.{matmul, mulTranspose, symmetrize};
 use crate::math::matrix::matmul_into;

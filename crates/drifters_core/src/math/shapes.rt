@@ -1,7 +1,11 @@
-// The shapes of matrix in use: for each a record with one flat array, by value. A method calls the function of matrix.rt at its dimensions.
+// The shapes of matrix in use: for each a record with one flat array, by value. A method calls the function of matrix.rt, or of
+// lent.rt, at its dimensions.
 ghost use mathlib.Core.Path.{_≡_};
 ghost use Rattle.drifters_core.specs.Matrix.{zeros, transpose, matmul, mulTranspose, scaled, setBlock, block, allFinite, amax, fromDiagonal, identity, diagonal, symmetrize, addMatrix, subMatrix, negMatrix, mulMat3Vec3};
 ghost use Rattle.drifters_core.specs.Vec3.{toArray};
+use crate::math::lent::matmul21;
+use crate::math::lent::mul_transpose21;
+use crate::math::lent::symmetrize21;
 use crate::math::matrix::add_in;
 use crate::math::matrix::all_finite;
 use crate::math::matrix::amax_of;
@@ -14,7 +18,6 @@ use crate::math::matrix::neg_in;
 use crate::math::matrix::scale_in;
 use crate::math::matrix::set_block_in;
 use crate::math::matrix::sub_in;
-use crate::math::matrix::symmetrize_in;
 use crate::math::matrix::transpose_into;
 use crate::math::vec3::Vec3;
 
@@ -229,28 +232,16 @@ impl Mat21 {
     pub fn matmul(self, rhs: Mat21) -> Mat21
         ensures { λ r. ⌜ r .data ≡ matmul 21 21 21 (self .data) (rhs .data) ⌝ }
     {
-        let mut row = [0.0; 21];
         let mut data = [0.0; 441];
-        matmul_into(&self.data, &rhs.data, &mut row, &mut data, 21, 21, 21);
+        matmul21(&self.data, &rhs.data, &mut data);
         Mat21 { data }
     }
 
     pub fn mul_transpose(self, rhs: Mat21) -> Mat21
         ensures { λ r. ⌜ r .data ≡ mulTranspose 21 21 21 (self .data) (rhs .data) ⌝ }
     {
-        let mut t = [0.0; 441];
-        let mut row = [0.0; 21];
         let mut data = [0.0; 441];
-        mul_transpose_into(
-            &self.data,
-            &rhs.data,
-            &mut t,
-            &mut row,
-            &mut data,
-            21,
-            21,
-            21,
-        );
+        mul_transpose21(&self.data, &rhs.data, &mut data);
         Mat21 { data }
     }
 
@@ -313,7 +304,7 @@ impl Mat21 {
         ensures { λ r. ⌜ r .data ≡ symmetrize 21 (self .data) ⌝ }
     {
         let mut data = self.data;
-        symmetrize_in(&mut data, 21);
+        symmetrize21(&mut data);
         Mat21 { data }
     }
 
