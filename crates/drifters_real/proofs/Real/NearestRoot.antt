@@ -21,7 +21,7 @@ use Rattle.drifters_real.specs.Real.{wholeRoot, sqrtUnits, sqrt, isFinit
 use Rattle.drifters_real.specs.Limbs.{IsWholeRoot, nearestRoot}
 use Rattle.drifters_real.proofs.Real.WholeRoot.{wholeRoot-is}
 use Rattle.drifters_real.proofs.Real.RootStep.{up-is, stay-is}
-use Rattle.drifters_real.proofs.Real.Patterns.{units-is, units-room}
+use Rattle.drifters_real.proofs.Real.Patterns.{units-is, units-below}
 use Rattle.drifters_real.proofs.Real.SquareRoot.{four-is, sqrtUnits-is, root-low, nearestRoot-low, nearestRoot-high, Scaled, scaled}
 use Rattle.drifters_real.proofs.Real.Rounding.{fit-of, shift, pow-le-back}
 
@@ -269,7 +269,7 @@ module _ (x : Float) (n M j : ℕ) (x-is : smallestValues x ≡ n) (s : Scaled n
 
   nearest-at : NearestRoot x y
   nearest-at = record {
-    float = odd-fits binary64 54 false (nearestRoot M) j (lt-of-le-of-lt (p-high n M j s) (lit< tt)) (p-high n M j s) (units-room (nearestRoot M) j (p-high n M j s) (s .exponent));
+    float = odd-fits binary64 54 false (nearestRoot M) j (lt-of-le-of-lt (p-high n M j s) (lit< tt)) (p-high n M j s) (units-below (nearestRoot M) j (p-high n M j s) (s .exponent));
     finite = odd-finite 54 (nearestRoot M) j;
     positive = odd-positive 54 (nearestRoot M) j (lt-of-lt-of-le (pow-pos 52) (p-low n M j s));
     below = λ z f t _. at-below z (sized z f t);
@@ -292,7 +292,7 @@ nearest-of-positive (suc m) e h f =
     let j = r .1 in
     let s = r .2 in
     subst (NearestRoot (fin false (suc m) e))
-    (sym (sqrt-is m e ∙ ap sqrtUnits (w .is) ∙ sqrtUnits-is n M j (s .is) (s .low) (s .high) ∙ units-is (nearestRoot M) j (units-room (nearestRoot M) j (p-high n M j s) (s .exponent))))
+    (sym (sqrt-is m e ∙ ap sqrtUnits (w .is) ∙ sqrtUnits-is n M j (s .is) (s .low) (s .high) ∙ units-is (nearestRoot M) j (units-below (nearestRoot M) j (p-high n M j s) (s .exponent))))
     (nearest-at (fin false (suc m) e) n M j (w .is) s)
 
 pub sqrt-nearest : SqrtNearest

@@ -110,15 +110,15 @@ pub units-is : (q k : ℕ) → q * 2 ^ k < 2 ^ 2098 → units binary64 false q k
 unfolding units
 units-is q k h = ap (λ (b : Bool). cond b (odd 54 false q k 1074) (inf false)) (is-true (ltb (q * 2 ^ k) (2 ^ 2098)) (lt→ltb (q * 2 ^ k) (2 ^ 2098) h))
 
-pub units-room : (q k : ℕ) → q ≤ 2 ^ 53 → k ≤ 2044 → q * 2 ^ k < 2 ^ 2098
-units-room q k h l = lt-of-le-of-lt (le-trans (mul-le-mul-right (2 ^ k) h) (le-of-eq (sym (pow-add 2 53 k)))) (pow-lt (fit k l))
+pub units-below : (q k : ℕ) → q ≤ 2 ^ 53 → k ≤ 2044 → q * 2 ^ k < 2 ^ 2098
+units-below q k h l = lt-of-le-of-lt (le-trans (mul-le-mul-right (2 ^ k) h) (le-of-eq (sym (pow-add 2 53 k)))) (pow-lt (fit k l))
   where
     fit : (k : ℕ) → k ≤ 2044 → 53 + k < 2098
     fit k l = omega arith
 
 pub units-bits : (q k : ℕ) → 2 ^ 52 ≤ q → q ≤ 2 ^ 53 → k ≤ 2044 → ofBits binary64 (k * 2 ^ 52 + q) ≡ units binary64 false q k
 units-bits q k lo hi l =
-    let b = units-room q k hi l in
+    let b = units-below q k hi l in
     ap (ofBits binary64) (sym (pattern-is 54 q k lo hi))
     ∙ ofBits-toBits binary64 (odd 54 false q k 1074) (odd-fits binary64 54 false q k (lt-of-le-of-lt hi (lit< tt)) hi b)
     ∙ sym (units-is q k b)
@@ -129,4 +129,4 @@ odd-no-nan d zero k l = refl
 odd-no-nan d (suc q) k l = refl
 
 pub units-no-nan : (q k : ℕ) → 2 ^ 52 ≤ q → q ≤ 2 ^ 53 → k ≤ 2044 → nanBits binary64 (k * 2 ^ 52 + q) ≡ false
-units-no-nan q k lo hi l = nanBits-is binary64 (k * 2 ^ 52 + q) ∙ ap isNan (units-bits q k lo hi l ∙ units-is q k (units-room q k hi l)) ∙ odd-no-nan 54 q k 1074
+units-no-nan q k lo hi l = nanBits-is binary64 (k * 2 ^ 52 + q) ∙ ap isNan (units-bits q k lo hi l ∙ units-is q k (units-below q k hi l)) ∙ odd-no-nan 54 q k 1074
