@@ -1,0 +1,207 @@
+-- Port of filter.rs: the filter's propagation and updates, with their refusals. Definitions only.
+use Prim.Native.Nat.{ℕ, _+_, _*_}
+use mathlib.Core.Bool.{Bool, true, false, _&&_, cond}
+use mathlib.Core.List.{List, _++_}
+use lib.ListN.{getD}
+use lib.Ieee.{Float, nan, binary64, le, ofBits}
+use Rattle.drifters_real.specs.Scalar.{_⊗_, half}
+use Rattle.drifters_real.specs.Real.{abs}
+use Rattle.drifters_core.specs.Matrix.{matrix, zeros, transpose, matmul, mulTranspose, scaled, setBlock, fromDiagonal, identity, symmetrize, Factor, cholesky, solve, addMatrix, subMatrix, negMatrix, mulMat3Vec3}
+use Rattle.drifters_core.specs.Vec3.{zeroVec3, toArray, norm, normalized, skew, subVec3}
+use Rattle.drifters_core.specs.declared.math.vec3.Vec3.{Vec3}
+use Rattle.drifters_core.specs.declared.math.shapes.Mat21.{Mat21}
+use Rattle.drifters_eqf.specs.Answer.{turnRefusal, pivotRefusal}
+use Rattle.drifters_eqf.specs.Lie.{toArraySe3, fromArraySe3, chi, adjointApplySe3}
+use Rattle.drifters_eqf.specs.Group.{compose, toArray21, scaledAlgebra, vec3At, fromArray21, unit, ad, exp, adjointApply, defaultState, fromState, actState}
+use Rattle.drifters_eqf.specs.Lift.{lift}
+use Rattle.drifters_eqf.specs.Linear.{stateMatrix, directionOutputMatrix, positionOutputMatrix, velocityOutputMatrix, transportedDirection, transportedPosition, transportedVelocity}
+use Rattle.drifters_eqf.specs.Gcu.{definite, entriesOf, nis, inflate}
+use Rattle.drifters_eqf.specs.declared.group.Symmetry.{Symmetry}
+use Rattle.drifters_eqf.specs.declared.group.Algebra.{Algebra}
+use Rattle.drifters_eqf.specs.declared.group.State.{State}
+use Rattle.drifters_eqf.specs.declared.lift.Input.{Input}
+use Rattle.drifters_eqf.specs.declared.filter.ProcessNoise.{ProcessNoise}
+use Rattle.drifters_eqf.specs.declared.filter.EqFilter.{EqFilter}
+use Rattle.drifters_eqf.specs.declared.filter.Answer.the-variants.{Nis, Fine, Refused}
+use Rattle.drifters_eqf.specs.declared.filter.Answered.{Answered}
+
+-- 8.0: the largest norm of a rotation vector whose exponential is taken
+abbrev pub turnLimit : Float
+turnLimit = ofBits binary64 0x4020_0000_0000_0000
+
+-- the norms of both rotation vectors of u are numbers at most that; document 01's 'turn' is that they are not
+unfoldable pub turnFits : Algebra → Bool
+turnFits u = le (norm (u .c .omega)) turnLimit && le (norm (u .e)) turnLimit
+
+-- a refusal, beside the filter as it was
+abbrev pub refuse : ℕ → EqFilter → Answered
+refuse n f = record { answer = Refused n; filter = f }
+
+-- the filter of an initial state and covariance
+unfoldable pub new : State → List Float → Vec3 → EqFilter
+new initial sigma gravity = record { x = fromState initial; sigma = record { «data» = sigma }; gravity = gravity; alpha = half }
+
+-- the estimate
+unfoldable pub navState : EqFilter → State
+navState f = actState (f .x) defaultState
+
+-- ---- propagation
+
+-- the algebra element of the half step, lifted at the estimate
+unfoldable pub halfStep : EqFilter → Input → Float → Algebra
+halfStep f u dt = scaledAlgebra (lift (navState f) u (f .gravity)) (half ⊗ dt)
+
+-- the observer's state at the midpoint
+unfoldable pub midpoint : EqFilter → Input → Float → Symmetry
+midpoint f u dt = compose (f .x) (exp (halfStep f u dt))
+
+-- the algebra element of the full step, lifted at the midpoint
+unfoldable pub fullStep : EqFilter → Input → Float → Algebra
+fullStep f u dt = scaledAlgebra (lift (actState (midpoint f u dt) defaultState) u (f .gravity)) dt
+
+-- the transition matrix I + A dt + ½ (A dt)²
+unfoldable pub transition : List Float → Float → List Float
+transition a dt =
+    let aDt = scaled 441 a dt in
+    addMatrix 441 (addMatrix 441 (identity 21) aDt) (scaled 441 (matmul 21 21 21 aDt aDt) half)
+
+-- an input of six numbers
+abbrev pub inputAt : List Float → ℕ → Input
+inputAt v i = record { omega = vec3At v i; accel = vec3At v (i + 3) }
+
+-- column k of the input noise: the lift at unit input k less the lift at zero input, carried by x
+unfoldable pub inputColumn : Symmetry → State → Vec3 → ℕ → List Float
+inputColumn x estimate gravity k =
+    let quiet = toArray21 (lift estimate (inputAt (zeros 6) 0) gravity) in
+    toArray21 (adjointApply x (fromArray21 (subMatrix 21 (toArray21 (lift estimate (inputAt (unit 6 k) 0) gravity)) quiet)))
+
+-- column k of the bias noise, before its sign
+unfoldable pub biasColumn : Symmetry → ℕ → List Float
+biasColumn x k = toArraySe3 (adjointApplySe3 (chi (x .c)) (fromArraySe3 (unit 6 k)))
+
+-- the 21 by 18 matrix that maps the noise into normal coordinates
+unfoldable pub noiseMap : Symmetry → State → Vec3 → List Float
+noiseMap x estimate gravity =
+    let g = setBlock 21 18 21 6 0 0 (zeros 378) (matrix 21 6 (λ i k. getD (inputColumn x estimate gravity k) i nan)) in
+    let g = setBlock 21 18 6 6 9 6 g (negMatrix 36 (matrix 6 6 (λ i k. getD (biasColumn x k) i nan))) in
+    let g = setBlock 21 18 3 3 15 12 g (negMatrix 9 (x .c .rotation .«data»)) in
+    setBlock 21 18 3 3 18 15 g (x .e .«data»)
+
+-- the densities in the order of `psd`
+abbrev pub psd : ProcessNoise → List Float
+psd q = toArray (q .gyro) ++ toArray (q .accel) ++ toArray (q .«gyro_bias») ++ toArray (q .«accel_bias») ++ toArray (q .lever) ++ toArray (q .mag)
+
+-- the process noise in normal coordinates
+unfoldable pub processNoise : Symmetry → State → Vec3 → ProcessNoise → List Float
+processNoise x estimate gravity q =
+    let g = noiseMap x estimate gravity in
+    mulTranspose 21 18 21 (matmul 21 18 18 g (fromDiagonal 18 (psd q))) g
+
+-- the covariance after propagation: x is the new state of the observer, the estimate the old one
+unfoldable pub propagatedSigma : EqFilter → Input → Float → ProcessNoise → List Float
+propagatedSigma f u dt q =
+    let x = compose (f .x) (exp (fullStep f u dt)) in
+    let phi = transition (stateMatrix (midpoint f u dt) u (f .gravity)) dt in
+    let noise = processNoise x (navState f) (f .gravity) q in
+    symmetrize 21 (addMatrix 441 (mulTranspose 21 21 21 (matmul 21 21 21 phi (f .sigma .«data»)) phi) (scaled 441 noise (abs dt)))
+
+-- the filter after propagation
+unfoldable pub propagated : EqFilter → Input → Float → ProcessNoise → EqFilter
+propagated f u dt q = record {
+  x = compose (f .x) (exp (fullStep f u dt));
+  sigma = record { «data» = propagatedSigma f u dt q };
+  gravity = f .gravity;
+  alpha = f .alpha;
+}
+
+-- propagation over dt; refused where the turn of the half step, or then of the full step, does not fit
+unfoldable pub propagate : EqFilter → Input → Float → ProcessNoise → Answered
+propagate f u dt q =
+    cond (turnFits (halfStep f u dt))
+    (cond (turnFits (fullStep f u dt)) (record { answer = Fine; filter = propagated f u dt q }) (refuse turnRefusal f))
+    (refuse turnRefusal f)
+
+-- ---- updates, of w measured numbers: c is the w by 21 output matrix, y the innovation, noise w by w
+
+-- c sigma cᵀ
+unfoldable pub projected : ℕ → EqFilter → List Float → List Float
+projected w f c = mulTranspose w 21 w (matmul w 21 21 c (f .sigma .«data»)) c
+
+-- the factor of the raw innovation covariance
+unfoldable pub rawFactor : ℕ → EqFilter → List Float → List Float → Factor
+rawFactor w f c noise = cholesky w (addMatrix (w * w) (projected w f c) noise)
+
+-- the factor of the inflated innovation covariance
+unfoldable pub inflatedFactor : ℕ → EqFilter → List Float → List Float → List Float → Factor
+inflatedFactor w f c y noise = cholesky w (inflate w y (projected w f c) noise (f .alpha))
+
+-- the 21 by w gain, by solving with the inflated factor
+unfoldable pub gain : ℕ → EqFilter → List Float → List Float → List Float → List Float
+gain w f c y noise = transpose w 21 (solve w 21 (entriesOf (inflatedFactor w f c y noise)) (matmul w 21 21 c (f .sigma .«data»)))
+
+-- the correction as an algebra element
+unfoldable pub correction : ℕ → List Float → List Float → Algebra
+correction w k y = fromArray21 (matmul 21 w 1 k y)
+
+-- the Joseph form (I - k c) sigma (I - k c)ᵀ + k noise kᵀ
+unfoldable pub joseph : ℕ → List Float → List Float → List Float → List Float → List Float
+joseph w sigma k c noise =
+    let ikc = subMatrix 441 (identity 21) (matmul 21 w 21 k c) in
+    addMatrix 441 (mulTranspose 21 21 21 (matmul 21 21 21 ikc sigma) ikc) (mulTranspose 21 w 21 (matmul 21 w w k noise) k)
+
+-- the covariance carried through the reset I + ½ ad
+unfoldable pub resetSigma : Algebra → List Float → List Float
+resetSigma step sigma =
+    let reset = addMatrix 441 (identity 21) (scaled 441 (ad step) half) in
+    mulTranspose 21 21 21 (matmul 21 21 21 reset sigma) reset
+
+-- the filter after an update with the gain k
+unfoldable pub updated : ℕ → EqFilter → List Float → List Float → List Float → List Float → EqFilter
+updated w f k c y noise =
+    let step = correction w k y in
+    record {
+      x = compose (exp step) (f .x);
+      sigma = record { «data» = symmetrize 21 (resetSigma step (joseph w (f .sigma .«data») k c noise)) };
+      gravity = f .gravity;
+      alpha = f .alpha;
+    }
+
+-- the update: refused where the raw or the inflated covariance has no factor, or the turn of the correction does not fit
+unfoldable pub update : ℕ → EqFilter → List Float → List Float → List Float → Answered
+update w f c y noise =
+    let k = gain w f c y noise in
+    cond (definite (rawFactor w f c noise))
+    (cond (definite (inflatedFactor w f c y noise))
+    (cond (turnFits (correction w k y))
+    (record { answer = Nis (nis w (entriesOf (rawFactor w f c noise)) y); filter = updated w f k c y noise })
+    (refuse turnRefusal f))
+    (refuse pivotRefusal f))
+    (refuse pivotRefusal f)
+
+-- what an update measures: its output matrix and its innovation
+pub record Measurement : Type 0 where
+  pub output : List Float
+  pub innovation : List Float
+
+-- an antenna position
+unfoldable pub measuredPosition : EqFilter → Vec3 → Measurement
+measuredPosition f antenna =
+    let transported = transportedPosition (f .x) in
+    record { output = positionOutputMatrix antenna transported; innovation = toArray (subVec3 transported antenna) }
+
+-- an antenna velocity, at the rate that built it
+unfoldable pub measuredVelocity : EqFilter → Vec3 → Vec3 → Measurement
+measuredVelocity f antenna omega =
+    let transported = transportedVelocity (f .x) omega in
+    record { output = velocityOutputMatrix antenna transported (mulMat3Vec3 (f .x .c .rotation) omega); innovation = toArray (subVec3 transported antenna) }
+
+-- a magnetometer direction, of a known north
+unfoldable pub measuredDirection : EqFilter → Vec3 → Vec3 → Measurement
+measuredDirection f measured north =
+    let origin = normalized north in
+    let transported = transportedDirection (f .x) (normalized measured) in
+    record { output = directionOutputMatrix origin transported; innovation = toArray (mulMat3Vec3 (skew origin) transported) }
+
+-- the update by such a measurement
+abbrev pub updateBy : EqFilter → Measurement → List Float → Answered
+updateBy f m noise = update 3 f (m .output) (m .innovation) noise

@@ -1,0 +1,81 @@
+-- The starred readings of document 01: one table, and one theorem. The proof is in proofs/Readings.antt. Definitions and statements only.
+use Prim.Native.Nat.{ℕ}
+use mathlib.Core.Path.{_≡_}
+use mathlib.Core.List.{List, [], _∷_, map}
+use lib.Ieee.{Float, nan, inf, binary64, ofBits, toBits}
+use mathlib.Core.Bool.{false, true}
+use Rattle.drifters_real.specs.Scalar.{plusZero, one, two}
+use Rattle.drifters_real.specs.Real.{sqrt, sin, cos}
+use Rattle.drifters_core.specs.Matrix.{matmul, mulTranspose, symmetrize, Factor, none, lower, cholesky}
+use Rattle.drifters_core.specs.Vec3.{vec3, zeroVec3}
+use Rattle.drifters_eqf.specs.Lie.{se3Tangent, mostHalvings, halvings}
+use Rattle.drifters_eqf.specs.Gcu.{beta}
+
+-- what a definition gives and what document 01 states, numbers as their bits
+pub record Reading : Type 0 where
+  pub given : List ℕ
+  pub stated : List ℕ
+
+-- the number of a pattern
+abbrev pub float : ℕ → Float
+float n = ofBits binary64 n
+
+-- the patterns of numbers
+abbrev pub bits : List Float → List ℕ
+bits v = map (toBits binary64) v
+
+-- beta at a number
+abbrev pub betaIs : Float → Float → Reading
+betaIs r stated = record { given = bits (beta r ∷ []); stated = bits (stated ∷ []) }
+
+-- halvings at an `amax`, taken on either part
+abbrev pub halvingsAre : Float → ℕ → Reading
+halvingsAre x n = record {
+  given = halvings mostHalvings (se3Tangent (vec3 x plusZero plusZero) zeroVec3) ∷ halvings mostHalvings (se3Tangent zeroVec3 (vec3 plusZero plusZero x)) ∷ [];
+  stated = n ∷ n ∷ [];
+}
+
+-- the entries of a factor; none where the factorisation stopped
+abbrev pub factorBits : Factor → List ℕ
+factorBits none = []
+factorBits (lower l) = bits l
+
+-- lists of numbers
+abbrev pub numbersAre : List Float → List Float → Reading
+numbersAre v stated = record { given = bits v; stated = bits stated }
+
+-- the table; u, v and w, above a diagonal, may hold anything
+unfoldable pub readings : Float → Float → Float → List Reading
+readings u v w =
+    let zero = plusZero in
+    let three = float 0x4008_0000_0000_0000 in
+    let four = float 0x4010_0000_0000_0000 in
+    let nine = float 0x4022_0000_0000_0000 in
+    let sixteen = float 0x4030_0000_0000_0000 in
+    -- beta
+    betaIs zero one
+    ∷ betaIs one two
+    ∷ betaIs (float 0xbff0_0000_0000_0000) (inf false)
+    ∷ betaIs nan two
+    -- halvings at 0.0625, 0.125 and 8
+    ∷ halvingsAre (float 0x3fb0_0000_0000_0000) 0
+    ∷ halvingsAre (float 0x3fc0_0000_0000_0000) 1
+    ∷ halvingsAre (float 0x4020_0000_0000_0000) 7
+    -- the factor of a diagonal, and a pivot of zero
+    ∷ record {
+      given = factorBits (cholesky 3 (four ∷ u ∷ v ∷ zero ∷ nine ∷ w ∷ zero ∷ zero ∷ sixteen ∷ []));
+      stated = bits (two ∷ zero ∷ zero ∷ zero ∷ three ∷ zero ∷ zero ∷ zero ∷ four ∷ []);
+    }
+    ∷ record { given = factorBits (cholesky 3 (four ∷ u ∷ v ∷ zero ∷ zero ∷ w ∷ zero ∷ zero ∷ sixteen ∷ [])); stated = [] }
+    -- zero times infinity
+    ∷ numbersAre (matmul 1 1 1 (zero ∷ []) (inf false ∷ [])) (zero ∷ [])
+    ∷ numbersAre (mulTranspose 1 1 1 (zero ∷ []) (inf false ∷ [])) (nan ∷ [])
+    -- a mirrored pair
+    ∷ numbersAre (symmetrize 2 (zero ∷ one ∷ three ∷ zero ∷ [])) (zero ∷ two ∷ two ∷ zero ∷ [])
+    -- square root of 4, sine and cosine of 0
+    ∷ numbersAre (sqrt four ∷ sin zero ∷ cos zero ∷ []) (two ∷ zero ∷ one ∷ [])
+    ∷ []
+
+-- every row of the table is as stated
+abbrev pub Readings : Type 0
+Readings = (u v w : Float) → map (λ r. r .given) (readings u v w) ≡ map (λ r. r .stated) (readings u v w)
