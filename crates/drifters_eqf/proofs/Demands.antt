@@ -1,2 +1,5 @@
 -- The proofs of the demands.
+pub mod Decision
+pub mod First
+pub mod Second
 pub mod Third

@@ -1,5 +1,5 @@
 -- The starred readings, by computation. Assumes nothing.
-use mathlib.Core.Path.{_≡_, refl}
+use mathlib.Core.Path.{refl}
 use Rattle.drifters_real.specs.Real.{smallestValues, wholeRoot, sqrtUnits, sqrt, sumOf, angle, square, term, sincPlus, sincMinus, cosPlus, cosMinus, difference, sincOfSquare, cosOfSquare, inRange, sin, cos, abs, max, isFinite}
 use Rattle.drifters_core.specs.Matrix.{tab, matrix, sumTerms, matmul, mulTranspose, symmetrize, subTerms, factorEntry, factorColumns, factorRows, cholesky}
 use Rattle.drifters_core.specs.Vec3.{amaxVec3, mulVec3}

@@ -1,4 +1,4 @@
--- How many entries the matrices of a new filter and of its estimate have. Assumes nothing.
+-- How many entries the matrices of a new filter and of its estimate have, and that a new covariance is symmetrized. Assumes nothing.
 use Prim.Native.Nat.{ℕ, _*_}
 use mathlib.Core.Path.{_≡_, refl}
 use mathlib.Core.Bool.{Bool, true, false, cond}
@@ -34,13 +34,30 @@ compose-e : (x y : Symmetry) → length (compose x y .e .«data») ≡ 9
 unfolding compose
 compose-e x y = length-matmul 3 3 3 (x .e .«data») (y .e .«data»)
 
-pub sized-propagated : (f : EqFilter) (u : Input) (dt : Float) (q : ProcessNoise) → SizedFilter (propagated f u dt q)
+-- a covariance that is symmetrized
+abbrev pub Symmetrized : List Float → Type 0
+Symmetrized sigma = (m : List Float) × (sigma ≡ symmetrize 21 m)
+
+length-symmetrized : (sigma : List Float) → Symmetrized sigma → length sigma ≡ 441
+length-symmetrized sigma s = rw (s .1) (length-symmetrize 21 (s .0))
+
+pub symmetrized-propagated : (f : EqFilter) (u : Input) (dt : Float) (q : ProcessNoise) → Symmetrized (propagated f u dt q .sigma .«data»)
 unfolding propagated propagatedSigma
-sized-propagated f u dt q = record { rotation = compose-rotation (f .x) _; e = compose-e (f .x) _; sigma = length-symmetrize 21 _ }
+symmetrized-propagated f u dt q = (_, refl)
+
+pub symmetrized-updated : (w : ℕ) (f : EqFilter) (k c y noise : List Float) → Symmetrized (updated w f k c y noise .sigma .«data»)
+unfolding updated
+symmetrized-updated w f k c y noise = (_, refl)
+
+pub sized-propagated : (f : EqFilter) (u : Input) (dt : Float) (q : ProcessNoise) → SizedFilter (propagated f u dt q)
+unfolding propagated
+sized-propagated f u dt q =
+    record { rotation = compose-rotation (f .x) _; e = compose-e (f .x) _; sigma = length-symmetrized _ (symmetrized-propagated f u dt q) }
 
 pub sized-updated : (w : ℕ) (f : EqFilter) (k c y noise : List Float) → SizedFilter (updated w f k c y noise)
 unfolding updated
-sized-updated w f k c y noise = record { rotation = compose-rotation _ (f .x); e = compose-e _ (f .x); sigma = length-symmetrize 21 _ }
+sized-updated w f k c y noise =
+    record { rotation = compose-rotation _ (f .x); e = compose-e _ (f .x); sigma = length-symmetrized _ (symmetrized-updated w f k c y noise) }
 
 -- what one of two tests chooses
 sized-cond : (b : Bool) (a z : Answered) → SizedFilter (a .filter) → SizedFilter (z .filter) → SizedFilter (cond b a z .filter)

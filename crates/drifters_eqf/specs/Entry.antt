@@ -1,13 +1,13 @@
--- The seven calls on lent runs: their kinds and lengths, their answers, and every lent number afterwards. Definitions only.
+-- The six kinds of call and the start, on lent runs: their lengths, their answers, and every lent number afterwards. Definitions only.
 use Prim.Native.Nat.{ℕ, _+_}
 use mathlib.Core.Bool.{Bool, _&&_, cond}
-use mathlib.Core.List.{List, [], _∷_}
+use mathlib.Core.List.{List, []}
 use lib.Dec.{eqb}
 use lib.ListN.{length, getD}
 use lib.Ieee.{Float, nan}
 use Rattle.drifters_core.specs.Matrix.{allFinite}
 use Rattle.drifters_eqf.specs.Answer.{lengthRefusal, blankRefusal, rangeRefusal, valuesOf}
-use Rattle.drifters_eqf.specs.Group.{vec3At}
+use Rattle.drifters_eqf.specs.Lie.{vec3At}
 use Rattle.drifters_eqf.specs.Filter.{new, navState, inputAt, propagate, update, Measurement, measuredPosition, measuredVelocity, measuredDirection}
 use Rattle.drifters_eqf.specs.Run.{filterLength, stateLength, part, fromRun, toRun, stateFromRun, stateToRun}
 use Rattle.drifters_eqf.specs.declared.lift.Input.{Input}
@@ -37,7 +37,7 @@ callLength Direction = 15
 callLength General = 75
 callLength State = 0
 
--- how many numbers it writes beside the filter
+-- how many numbers a call of a kind writes beside the filter
 abbrev pub writtenLength : Kind → ℕ
 writtenLength Propagate = 0
 writtenLength Position = 0
@@ -50,10 +50,10 @@ writtenLength State = stateLength
 abbrev pub startLength : ℕ
 startLength = 477
 
--- what a call asks of the filter
+-- what a call asks of the filter: to propagate, to be updated by a measurement of w numbers with its noise, or its estimate
 pub data Request : Type 0 where
   propagation : Input → Float → ProcessNoise → Request
-  measurement : Measurement → List Float → Request
+  measurement : ℕ → Measurement → List Float → Request
   estimate : Request
 
 -- eighteen densities from place i on
@@ -70,10 +70,10 @@ processNoiseAt v i = record {
 -- what the numbers v of a call ask of the filter f
 abbrev pub requestOf : Kind → EqFilter → List Float → Request
 requestOf Propagate f v = propagation (inputAt v 0) (getD v 6 nan) (processNoiseAt v 7)
-requestOf Position f v = measurement (measuredPosition f (vec3At v 0)) (part v 3 9)
-requestOf Velocity f v = measurement (measuredVelocity f (vec3At v 0) (vec3At v 3)) (part v 6 9)
-requestOf Direction f v = measurement (measuredDirection f (vec3At v 0) (vec3At v 3)) (part v 6 9)
-requestOf General f v = measurement (record { output = part v 0 63; innovation = part v 63 3 }) (part v 66 9)
+requestOf Position f v = measurement 3 (measuredPosition f (vec3At v 0)) (part v 3 9)
+requestOf Velocity f v = measurement 3 (measuredVelocity f (vec3At v 0) (vec3At v 3)) (part v 6 9)
+requestOf Direction f v = measurement 3 (measuredDirection f (vec3At v 0) (vec3At v 3)) (part v 6 9)
+requestOf General f v = measurement 3 (record { output = part v 0 63; innovation = part v 63 3 }) (part v 66 9)
 requestOf State f v = estimate
 
 -- an answer, the filter's run, and the run that a state call writes, as they are after a call
@@ -89,7 +89,7 @@ outcomeOf a written = record { answer = a .answer; run = toRun (a .filter); writ
 -- what is asked, done: before the results are tested
 unfoldable pub performed : Request → EqFilter → List Float → List Float → Outcome
 performed (propagation u dt q) f run written = outcomeOf (propagate f u dt q) written
-performed (measurement m noise) f run written = outcomeOf (update 3 f (m .output) (m .innovation) noise) written
+performed (measurement w m noise) f run written = outcomeOf (update w f (m .output) (m .innovation) noise) written
 performed estimate f run written = record { answer = Fine; run = run; written = stateToRun (navState f) }
 
 -- a refusal leaves every lent run as it was
@@ -101,24 +101,24 @@ abbrev pub finiteOutcome : Outcome → Bool
 finiteOutcome o = allFinite (valuesOf (o .answer) (o .written)) && allFinite (o .run)
 
 -- an outcome, where it is finite
-abbrev pub inRange : Outcome → List Float → List Float → Outcome
-inRange o run written = cond (finiteOutcome o) o (refused rangeRefusal run written)
+abbrev pub ifFinite : Outcome → List Float → List Float → Outcome
+ifFinite o run written = cond (finiteOutcome o) o (refused rangeRefusal run written)
 
--- an outcome given out: a refusal as it is, else what is in range
+-- an outcome as it is given out: a refusal, or what is finite
 abbrev pub settledAs : Answer → Outcome → List Float → List Float → Outcome
-settledAs (Nis x) o run written = inRange o run written
-settledAs Fine o run written = inRange o run written
+settledAs (Nis x) o run written = ifFinite o run written
+settledAs Fine o run written = ifFinite o run written
 settledAs (Refused n) o run written = refused n run written
 
 -- the same, by its own answer
 unfoldable pub settled : Outcome → List Float → List Float → Outcome
 settled o run written = settledAs (o .answer) o run written
 
--- every lent run of a call has its stated length
+-- every lent run of a call has its stated length; where a call writes nothing beside the filter, `written` is empty
 abbrev pub lengthsFit : Kind → List Float → List Float → List Float → Bool
 lengthsFit kind run v written = eqb (length run) filterLength && eqb (length v) (callLength kind) && eqb (length written) (writtenLength kind)
 
--- a call of a kind with the numbers v, on the filter's run; `written` is the run that a state call writes, and empty for the others
+-- a call of a kind with the numbers v, on the filter's run; `written` is the run that a state call writes
 unfoldable pub call : Kind → List Float → List Float → List Float → Outcome
 call kind run v written =
     cond (lengthsFit kind run v written)
@@ -129,7 +129,7 @@ call kind run v written =
 
 -- a filter's run from the 477 numbers of a start
 unfoldable pub started : List Float → List Float
-started v = toRun (new (stateFromRun v) (part v stateLength 441) (vec3At v 474))
+started v = toRun (new (stateFromRun v) (part v stateLength 441) (vec3At v (stateLength + 441)))
 
 -- a start with the numbers v; what the filter's run held before does not matter
 unfoldable pub start : List Float → List Float → Outcome

@@ -1,18 +1,17 @@
 -- Port of filter.rs: the filter's propagation and updates, with their refusals. Definitions only.
 use Prim.Native.Nat.{ℕ, _+_, _*_}
-use mathlib.Core.Bool.{Bool, true, false, _&&_, cond}
+use mathlib.Core.Bool.{Bool, _&&_, cond}
 use mathlib.Core.List.{List, _++_}
 use lib.ListN.{getD}
 use lib.Ieee.{Float, nan, binary64, le, ofBits}
 use Rattle.drifters_real.specs.Scalar.{_⊗_, half}
 use Rattle.drifters_real.specs.Real.{abs}
 use Rattle.drifters_core.specs.Matrix.{matrix, zeros, transpose, matmul, mulTranspose, scaled, setBlock, fromDiagonal, identity, symmetrize, Factor, cholesky, solve, addMatrix, subMatrix, negMatrix, mulMat3Vec3}
-use Rattle.drifters_core.specs.Vec3.{zeroVec3, toArray, norm, normalized, skew, subVec3}
+use Rattle.drifters_core.specs.Vec3.{toArray, norm, normalized, skew, subVec3}
 use Rattle.drifters_core.specs.declared.math.vec3.Vec3.{Vec3}
-use Rattle.drifters_core.specs.declared.math.shapes.Mat21.{Mat21}
 use Rattle.drifters_eqf.specs.Answer.{turnRefusal, pivotRefusal}
-use Rattle.drifters_eqf.specs.Lie.{toArraySe3, fromArraySe3, chi, adjointApplySe3}
-use Rattle.drifters_eqf.specs.Group.{compose, toArray21, scaledAlgebra, vec3At, fromArray21, unit, ad, exp, adjointApply, defaultState, fromState, actState}
+use Rattle.drifters_eqf.specs.Lie.{toArraySe3, vec3At, fromArraySe3, chi, adjointApplySe3}
+use Rattle.drifters_eqf.specs.Group.{compose, toArray21, scaledAlgebra, fromArray21, unit, ad, exp, adjointApply, defaultState, fromState, actState}
 use Rattle.drifters_eqf.specs.Lift.{lift}
 use Rattle.drifters_eqf.specs.Linear.{stateMatrix, directionOutputMatrix, positionOutputMatrix, velocityOutputMatrix, transportedDirection, transportedPosition, transportedVelocity}
 use Rattle.drifters_eqf.specs.Gcu.{definite, entriesOf, nis, inflate}
@@ -65,7 +64,7 @@ transition a dt =
     let aDt = scaled 441 a dt in
     addMatrix 441 (addMatrix 441 (identity 21) aDt) (scaled 441 (matmul 21 21 21 aDt aDt) half)
 
--- an input of six numbers
+-- six numbers from place i on, as an input
 abbrev pub inputAt : List Float → ℕ → Input
 inputAt v i = record { omega = vec3At v i; accel = vec3At v (i + 3) }
 
@@ -201,7 +200,3 @@ measuredDirection f measured north =
     let origin = normalized north in
     let transported = transportedDirection (f .x) (normalized measured) in
     record { output = directionOutputMatrix origin transported; innovation = toArray (mulMat3Vec3 (skew origin) transported) }
-
--- the update by such a measurement
-abbrev pub updateBy : EqFilter → Measurement → List Float → Answered
-updateBy f m noise = update 3 f (m .output) (m .innovation) noise

@@ -22,7 +22,7 @@ entriesOf (lower l) = l
 unfoldable pub dotVector : ℕ → List Float → List Float → Float
 dotVector n a b = sumTerms false (λ i. getD a i nan) (λ i. getD b i nan) n
 
--- the factor of inflation: from 1 at r = 0 to 2 at r = 1, and 2 for larger r and for not a number
+-- the factor of inflation: from 1 at r = 0 to 2 at r = 1, and 2 for larger r and for not a number; 1 / (1 + r) below 0, infinite at -1
 unfoldable pub beta : Float → Float
 beta r =
     let root = sqrt (max r plusZero) in

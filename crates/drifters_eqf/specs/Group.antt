@@ -1,14 +1,14 @@
 -- Port of group.rs: the symmetry group, its algebra, and its action on the state. Definitions only.
-use Prim.Native.Nat.{ℕ, _+_}
+use Prim.Native.Nat.{ℕ}
 use mathlib.Core.List.{List, _++_}
 use lib.ListN.{getD, set}
 use lib.Ieee.{Float, nan}
 use Rattle.drifters_real.specs.Scalar.{one}
 use Rattle.drifters_core.specs.Matrix.{matrix, zeros, matmul, mulMat3Vec3}
-use Rattle.drifters_core.specs.Vec3.{vec3, zeroVec3, toArray, cross, addVec3, subVec3, negVec3, mulVec3}
+use Rattle.drifters_core.specs.Vec3.{zeroVec3, toArray, cross, addVec3, subVec3, negVec3, mulVec3}
 use Rattle.drifters_core.specs.Quat.{fromRotationVector, toDcm}
 use Rattle.drifters_core.specs.declared.math.vec3.Vec3.{Vec3}
-use Rattle.drifters_eqf.specs.Lie.{identity3, matmul3, transpose3, se23Tangent, zeroSe3Tangent, toArraySe23, scaledSe23, pi, toArraySe3, fromArraySe3, bracketSe3, addSe3, subSe3, negSe3, leftJacobian, identitySe23, composeSe23, inverseSe23, adjointApplySe23, chi, expSe23, inverseSe3, adjointApplySe3, scaledSe3, integratedAdjoint}
+use Rattle.drifters_eqf.specs.Lie.{identity3, matmul3, transpose3, se23Tangent, zeroSe3Tangent, toArraySe23, scaledSe23, pi, toArraySe3, vec3At, se3TangentAt, fromArraySe3, bracketSe3, addSe3, subSe3, negSe3, leftJacobian, identitySe23, composeSe23, inverseSe23, adjointApplySe23, chi, expSe23, inverseSe3, adjointApplySe3, scaledSe3, integratedAdjoint}
 use Rattle.drifters_eqf.specs.declared.group.Symmetry.{Symmetry}
 use Rattle.drifters_eqf.specs.declared.group.Algebra.{Algebra}
 use Rattle.drifters_eqf.specs.declared.group.State.{State}
@@ -39,15 +39,11 @@ toArray21 u = toArraySe23 (u .c) ++ toArraySe3 (u .gamma) ++ toArray (u .delta) 
 unfoldable pub scaledAlgebra : Algebra → Float → Algebra
 scaledAlgebra u s = record { c = scaledSe23 (u .c) s; gamma = scaledSe3 (u .gamma) s; delta = mulVec3 (u .delta) s; e = mulVec3 (u .e) s }
 
--- three numbers from place i on, as a vector
-abbrev pub vec3At : List Float → ℕ → Vec3
-vec3At v i = vec3 (getD v i nan) (getD v (i + 1) nan) (getD v (i + 2) nan)
-
 -- from 21 numbers
 abbrev pub fromArray21 : List Float → Algebra
 fromArray21 v = record {
   c = se23Tangent (vec3At v 0) (vec3At v 3) (vec3At v 6);
-  gamma = record { omega = vec3At v 9; nu = vec3At v 12 };
+  gamma = se3TangentAt v 9;
   delta = vec3At v 15;
   e = vec3At v 18;
 }

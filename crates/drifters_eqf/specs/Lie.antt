@@ -69,9 +69,17 @@ pi u = se3Tangent (u .omega) (u .nu)
 abbrev pub toArraySe3 : Se3Tangent → List Float
 toArraySe3 u = toArray (u .omega) ++ toArray (u .nu)
 
+-- three numbers from place i on, as a vector
+abbrev pub vec3At : List Float → ℕ → Vec3
+vec3At v i = vec3 (getD v i nan) (getD v (i + 1) nan) (getD v (i + 2) nan)
+
+-- six numbers from place i on, as an element of se(3)
+abbrev pub se3TangentAt : List Float → ℕ → Se3Tangent
+se3TangentAt v i = se3Tangent (vec3At v i) (vec3At v (i + 3))
+
 -- from six numbers
 abbrev pub fromArraySe3 : List Float → Se3Tangent
-fromArraySe3 v = se3Tangent (vec3 (getD v 0 nan) (getD v 1 nan) (getD v 2 nan)) (vec3 (getD v 3 nan) (getD v 4 nan) (getD v 5 nan))
+fromArraySe3 v = se3TangentAt v 0
 
 -- the Lie bracket of se(3)
 unfoldable pub bracketSe3 : Se3Tangent → Se3Tangent → Se3Tangent
@@ -139,7 +147,7 @@ jacobianA theta2 =
     (half ⊖ theta2 ⊘ twentyFour ⊕ t4 ⊘ sevenHundredTwenty)
     ((one ⊖ cos theta) ⊘ theta2)
 
--- the factor of its square
+-- the factor of the square of the skew matrix
 unfoldable pub jacobianB : Float → Float
 jacobianB theta2 =
     let t4 = theta2 ⊗ theta2 in
@@ -238,7 +246,7 @@ unfoldable pub halved : ℕ → Se3Tangent → Se3Tangent
 halved zero w = w
 halved (suc n) w = halved n (scaledSe3 w half)
 
--- term k of the series: m to the power k, over (k + 1)!
+-- term k of the series, m to the power k over (k + 1)!: the term before it times m, and times the rounded 1 / (k + 1)
 unfoldable pub seriesTerm : List Float → ℕ → List Float
 seriesTerm m zero = identity 6
 seriesTerm m (suc k) = scaled 36 (matmul 6 6 6 (seriesTerm m k) m) (one ⊘ ofInt binary64 (pos (suc k + 1)))
@@ -248,7 +256,7 @@ unfoldable pub series : List Float → ℕ → List Float
 series m zero = identity 6
 series m (suc k) = addMatrix 36 (series m k) (seriesTerm m (suc k))
 
--- psi doubled back n times, and w with it
+-- psi of w carried back over n halvings: ½ (I + Ad exp w) psi is that of 2 w
 unfoldable pub doubled : ℕ → Se3Tangent → List Float → List Float
 doubled zero w psi = psi
 doubled (suc n) w psi = doubled n (scaledSe3 w two) (scaled 36 (matmul 6 6 6 (addMatrix 36 (identity 6) (adjointSe3 (expSe3 w))) psi) half)

@@ -2,7 +2,7 @@
 use Prim.Native.Nat.{ℕ, _-_, _/_, _%_, _<_}
 use mathlib.Core.Path.{_≡_}
 use mathlib.Core.Bool.{Bool, false, cond}
-use mathlib.Core.List.{List, [], _∷_, map}
+use mathlib.Core.List.{List, [], _∷_, map, Forall₂}
 use lib.Dec.{ltb}
 use lib.ListN.{length, getD}
 use lib.Ieee.{Float, nan, unlike}
@@ -20,14 +20,14 @@ pub record Call : Type 0 where
   pub kind : Kind
   pub numbers : List Float
 
--- a call, its answer by number and values, and the filter that it left
+-- a call, its answer by number and values, and the filter that it left; accepted answers of a kind have as many values each
 pub record LogEntry : Type 0 where
   pub called : Call
   pub number : ℕ
   pub values : List Float
   pub left : List Float
 
--- the first filter, and what was called
+-- document 01's log: the first filter, and what was called
 pub record Log : Type 0 where
   pub first : List Float
   pub entries : List LogEntry
@@ -63,7 +63,7 @@ thenSigns n σ τ i = cond (ltb i n) (σ i) (τ (i - n))
 abbrev pub matrixSigns : ℕ → (ℕ → Bool) → (ℕ → Bool) → ℕ → Bool
 matrixSigns c σ τ i = unlike (σ (i / c)) (τ (i % c))
 
--- the rows of a rotation
+-- the rows of A, of E, of a pose
 abbrev pub rowSigns : Signs → ℕ → Bool
 rowSigns s = matrixSigns 3 (axis s) plain
 
@@ -96,7 +96,7 @@ valueSigns State s = thenSigns 9 (rowSigns s) (thenSigns 6 (axis s) plain)
 
 -- ---- reading through a half turn
 
--- a run with its signs
+-- document 01's half turn of a run: each number with its sign
 unfoldable pub turned : (ℕ → Bool) → List Float → List Float
 turned σ v = tab (length v) (λ i. signed (σ i) (getD v i nan))
 
@@ -136,12 +136,7 @@ pub record EqualEntry (e f : LogEntry) : Type 0 where
   pub values : Equal (e .values) (f .values)
   pub left : Equal (e .left) (f .left)
 
--- two lists of as many members, related place by place
-pub data Pairwise {A : Type 0} (R : A → A → Type 0) : List A → List A → Type 0 where
-  none : Pairwise R [] []
-  more : {x y : A} {xs ys : List A} → R x y → Pairwise R xs ys → Pairwise R (x ∷ xs) (y ∷ ys)
-
 -- the first filters and all entries are equal
 pub record EqualLog (l m : Log) : Type 0 where
   pub first : Equal (l .first) (m .first)
-  pub entries : Pairwise EqualEntry (l .entries) (m .entries)
+  pub entries : Forall₂ EqualEntry (l .entries) (m .entries)

@@ -3,7 +3,7 @@ use Prim.Native.Nat.{ℕ}
 use mathlib.Core.Path.{_≡_}
 use mathlib.Core.List.{List, [], _∷_, map}
 use lib.Ieee.{Float, nan, inf, binary64, ofBits, toBits}
-use mathlib.Core.Bool.{false, true}
+use mathlib.Core.Bool.{false}
 use Rattle.drifters_real.specs.Scalar.{plusZero, one, two}
 use Rattle.drifters_real.specs.Real.{sqrt, sin, cos}
 use Rattle.drifters_core.specs.Matrix.{matmul, mulTranspose, symmetrize, Factor, none, lower, cholesky}
@@ -35,12 +35,12 @@ halvingsAre x n = record {
   stated = n ∷ n ∷ [];
 }
 
--- the entries of a factor; none where the factorisation stopped
+-- a factor: 1 and its entries, or 0 where the factorisation stopped
 abbrev pub factorBits : Factor → List ℕ
-factorBits none = []
-factorBits (lower l) = bits l
+factorBits none = 0 ∷ []
+factorBits (lower l) = 1 ∷ bits l
 
--- lists of numbers
+-- numbers that a definition gives, and those stated
 abbrev pub numbersAre : List Float → List Float → Reading
 numbersAre v stated = record { given = bits v; stated = bits stated }
 
@@ -64,9 +64,9 @@ readings u v w =
     -- the factor of a diagonal, and a pivot of zero
     ∷ record {
       given = factorBits (cholesky 3 (four ∷ u ∷ v ∷ zero ∷ nine ∷ w ∷ zero ∷ zero ∷ sixteen ∷ []));
-      stated = bits (two ∷ zero ∷ zero ∷ zero ∷ three ∷ zero ∷ zero ∷ zero ∷ four ∷ []);
+      stated = 1 ∷ bits (two ∷ zero ∷ zero ∷ zero ∷ three ∷ zero ∷ zero ∷ zero ∷ four ∷ []);
     }
-    ∷ record { given = factorBits (cholesky 3 (four ∷ u ∷ v ∷ zero ∷ zero ∷ w ∷ zero ∷ zero ∷ sixteen ∷ [])); stated = [] }
+    ∷ record { given = factorBits (cholesky 3 (four ∷ u ∷ v ∷ zero ∷ zero ∷ w ∷ zero ∷ zero ∷ sixteen ∷ [])); stated = 0 ∷ [] }
     -- zero times infinity
     ∷ numbersAre (matmul 1 1 1 (zero ∷ []) (inf false ∷ [])) (zero ∷ [])
     ∷ numbersAre (mulTranspose 1 1 1 (zero ∷ []) (inf false ∷ [])) (nan ∷ [])

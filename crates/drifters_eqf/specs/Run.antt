@@ -1,15 +1,13 @@
 -- The filter as a run of 478 numbers and the state as one of 33, both ways, with the round trips. Definitions and statements only.
-use Prim.Native.Nat.{ℕ, _+_}
+use Prim.Native.Nat.{ℕ}
 use mathlib.Core.Path.{_≡_}
 use mathlib.Core.List.{List, [], _∷_, _++_}
 use lib.ListN.{length, getD, take, drop}
 use lib.Ieee.{Float, nan}
 use Rattle.drifters_core.specs.Vec3.{toArray}
 use Rattle.drifters_core.specs.declared.math.shapes.Mat3.{Mat3}
-use Rattle.drifters_eqf.specs.Lie.{mat3Of, toArraySe3}
-use Rattle.drifters_eqf.specs.Group.{vec3At}
+use Rattle.drifters_eqf.specs.Lie.{mat3Of, toArraySe3, vec3At, se3TangentAt}
 use Rattle.drifters_eqf.specs.declared.lie.Se23.{Se23}
-use Rattle.drifters_eqf.specs.declared.lie.Se3Tangent.{Se3Tangent}
 use Rattle.drifters_eqf.specs.declared.group.State.{State}
 use Rattle.drifters_eqf.specs.declared.filter.EqFilter.{EqFilter}
 
@@ -45,6 +43,18 @@ gravityPlace = 474
 abbrev pub alphaPlace : ℕ
 alphaPlace = 477
 
+-- where the biases begin in a state, after its pose
+abbrev pub biasPlace : ℕ
+biasPlace = 15
+
+-- where the lever arm begins
+abbrev pub leverPlace : ℕ
+leverPlace = 21
+
+-- where the magnetometer calibration begins
+abbrev pub magPlace : ℕ
+magPlace = 24
+
 -- n numbers from place i on
 abbrev pub part : List Float → ℕ → ℕ → List Float
 part v i n = take n (drop i v)
@@ -52,10 +62,6 @@ part v i n = take n (drop i v)
 -- nine numbers from place i on, as a matrix
 abbrev pub mat3At : List Float → ℕ → Mat3
 mat3At v i = mat3Of (part v i 9)
-
--- six numbers from place i on, as an element of se(3)
-abbrev pub se3TangentAt : List Float → ℕ → Se3Tangent
-se3TangentAt v i = record { omega = vec3At v i; nu = vec3At v (i + 3) }
 
 -- an extended pose from its fifteen numbers, the first of the run
 abbrev pub poseOf : List Float → Se23
@@ -82,7 +88,7 @@ toRun f =
 
 -- a state from its run: pose, bias, lever arm, magnetometer calibration
 unfoldable pub stateFromRun : List Float → State
-stateFromRun run = record { pose = poseOf run; bias = se3TangentAt run 15; lever = vec3At run 21; mag = mat3At run 24 }
+stateFromRun run = record { pose = poseOf run; bias = se3TangentAt run biasPlace; lever = vec3At run leverPlace; mag = mat3At run magPlace }
 
 -- and back
 unfoldable pub stateToRun : State → List Float

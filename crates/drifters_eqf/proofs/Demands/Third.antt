@@ -1,13 +1,12 @@
 -- Demand 3: any two logs, one read through a half turn, are equal exactly when their first filters and calls are. Assumes nothing.
-use Prim.Native.Nat.{ℕ}
-use mathlib.Core.Path.{_≡_, refl, sym, subst}
-use mathlib.Core.List.{List, [], _∷_, map}
+use mathlib.Core.Path.{_≡_, refl, subst}
+use mathlib.Core.List.{List, [], _∷_, map, Forall₂, Forall₂·nil, Forall₂·cons}
 use lib.Ieee.{Float}
 use Rattle.drifters_core.specs.Matrix.{zeros}
 use Rattle.drifters_core.specs.Like.{Signs}
 use Rattle.drifters_eqf.specs.Answer.{numberOf}
 use Rattle.drifters_eqf.specs.Entry.{writtenLength, call}
-use Rattle.drifters_eqf.specs.Log.{Call, entryOf, outcome, entriesFrom, logOf, filterSigns, callSigns, valueSigns, turned, turnCall, turnEntry, Equal, EqualCall, EqualEntry, Pairwise, none, more}
+use Rattle.drifters_eqf.specs.Log.{Call, outcome, entriesFrom, filterSigns, valueSigns, turnCall, turnEntry, EqualCall, EqualEntry}
 use Rattle.drifters_eqf.specs.Demands.{Demand3}
 use Rattle.drifters_eqf.specs.declared.filter.Answer.{Answer}
 use Rattle.drifters_eqf.specs.declared.entry.Kind.{Kind}
@@ -29,24 +28,24 @@ module _ (s : Signs) where
       (like-call (c .kind) (zeros (writtenLength (c .kind))) r (equal-turned (h .numbers)))
 
   -- all calls, one after the other
-  entries-turned : {run run' : List Float} (calls calls' : List Call) → Turned (filterSigns s) run run' → Pairwise EqualCall (map (turnCall s) calls) calls'
-      → Pairwise EqualEntry (map (turnEntry s) (entriesFrom run calls)) (entriesFrom run' calls')
+  entries-turned : {run run' : List Float} (calls calls' : List Call) → Turned (filterSigns s) run run' → Forall₂ EqualCall (map (turnCall s) calls) calls'
+      → Forall₂ EqualEntry (map (turnEntry s) (entriesFrom run calls)) (entriesFrom run' calls')
   unfolding entriesFrom
-  entries-turned [] [] r none = none
-  entries-turned (c ∷ cs) (d ∷ ds) r (more h hs) =
+  entries-turned [] [] r Forall₂·nil = Forall₂·nil
+  entries-turned (c ∷ cs) (d ∷ ds) r (Forall₂·cons h hs) =
       let o = outcome-turned c d r h in
-      more record { called = h; number = same-number (o .answer); values = turned-equal (o .values); left = turned-equal (o .run) }
+      Forall₂·cons record { called = h; number = same-number (o .answer); values = turned-equal (o .values); left = turned-equal (o .run) }
       (entries-turned cs ds (o .run) hs)
 
   -- the calls stand in the entries
-  calls-of : (run run' : List Float) (calls calls' : List Call) → Pairwise EqualEntry (map (turnEntry s) (entriesFrom run calls)) (entriesFrom run' calls')
-      → Pairwise EqualCall (map (turnCall s) calls) calls'
+  calls-of : (run run' : List Float) (calls calls' : List Call) → Forall₂ EqualEntry (map (turnEntry s) (entriesFrom run calls)) (entriesFrom run' calls')
+      → Forall₂ EqualCall (map (turnCall s) calls) calls'
   unfolding entriesFrom
-  calls-of run run' [] [] none = none
-  calls-of run run' (c ∷ cs) (d ∷ ds) (more h hs) = more (h .called) (calls-of (outcome run c .run) (outcome run' d .run) cs ds hs)
+  calls-of run run' [] [] Forall₂·nil = Forall₂·nil
+  calls-of run run' (c ∷ cs) (d ∷ ds) (Forall₂·cons h hs) = Forall₂·cons (h .called) (calls-of (outcome run c .run) (outcome run' d .run) cs ds hs)
 
 pub demand3 : Demand3
-demand3 s first first' calls calls' = record {
-  to = λ h. (h .first, calls-of s first first' calls calls' (h .entries));
-  from = λ h. record { first = h .0; entries = entries-turned s calls calls' (equal-turned (h .0)) (h .1) };
-}
+demand3 s first first' calls calls' = (
+  λ h. (h .first, calls-of s first first' calls calls' (h .entries)),
+  λ h. record { first = h .0; entries = entries-turned s calls calls' (equal-turned (h .0)) (h .1) },
+)

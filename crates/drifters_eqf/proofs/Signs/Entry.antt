@@ -2,12 +2,12 @@
 use Prim.Native.Nat.{ℕ, zero, suc, _+_, _<_}
 use native.Mathlib.Nat.{not-suc-le-zero, le-of-suc-le-suc}
 use native.Mathlib.Omega.{arith}
-use mathlib.Core.Path.{_≡_, refl, sym, ap, ap₂, _∙_, subst, subst₂}
-use mathlib.Core.Bool.{Bool, true, false, _&&_, cond, true≢false}
+use mathlib.Core.Path.{_≡_, refl, sym, ap₂, _∙_, subst, subst₂}
+use mathlib.Core.Bool.{Bool, true, false, _&&_, and-eq-true-iff}
 use mathlib.Core.List.{List, [], _∷_}
 use borrow.Author.Tests.{eqb-true}
 use lib.Dec.{eqb, lit<}
-use lib.ListN.{length, getD, take, drop}
+use lib.ListN.{length, getD, take}
 use lib.Seq.{getD-take, drop-drop}
 use lib.Ieee.{Float, nan}
 use Rattle.drifters_core.specs.Matrix.{allFinite}
@@ -15,10 +15,10 @@ use Rattle.drifters_core.specs.Like.{Like, Signs, axis, LikeList, LikeVec3, Lik
 use Rattle.drifters_core.proofs.Signs.Like.{like-refl, cond-keeps}
 use Rattle.drifters_core.proofs.Signs.Matrix.{like-allFinite-list}
 use Rattle.drifters_eqf.specs.Answer.{lengthRefusal, blankRefusal, rangeRefusal, valuesOf}
-use Rattle.drifters_eqf.specs.Group.{vec3At}
-use Rattle.drifters_eqf.specs.Filter.{navState, inputAt, propagate, update, Measurement}
-use Rattle.drifters_eqf.specs.Run.{filterLength, part, fromRun, toRun, stateFromRun, stateToRun, SizedFilter, SizedState}
-use Rattle.drifters_eqf.specs.Entry.{callLength, writtenLength, processNoiseAt, requestOf, Outcome, outcomeOf, performed, refused, finiteOutcome, inRange, settledAs, settled, lengthsFit, call}
+use Rattle.drifters_eqf.specs.Lie.{vec3At}
+use Rattle.drifters_eqf.specs.Filter.{inputAt, update, Measurement}
+use Rattle.drifters_eqf.specs.Run.{filterLength, part, fromRun, toRun, stateToRun, SizedFilter, SizedState}
+use Rattle.drifters_eqf.specs.Entry.{callLength, writtenLength, processNoiseAt, requestOf, Outcome, outcomeOf, performed, refused, finiteOutcome, ifFinite, settledAs, settled, lengthsFit, call}
 use Rattle.drifters_eqf.specs.Log.{plain, thenSigns, matrixSigns, noiseSigns, filterSigns, callSigns, valueSigns}
 use Rattle.drifters_eqf.specs.declared.group.State.{State as StateRecord}
 use Rattle.drifters_eqf.specs.declared.filter.EqFilter.{EqFilter}
@@ -87,12 +87,12 @@ module _ {s : Signs} (written : List Float) where
   like-refused n h = record { answer = both-refused; values = turned-nil; run = h }
 
   module _ {σ : ℕ → Bool} {o p : Outcome} {run run' : List Float} (h : LikeOutcome s σ o p) (r : Turned (filterSigns s) run run') where
-    like-inRange : LikeOutcome s σ (inRange o run written) (inRange p run' written)
-    like-inRange = cond-keeps (LikeOutcome s σ) (like-finiteOutcome h) (λ e. h) (λ e. like-refused rangeRefusal r)
+    like-ifFinite : LikeOutcome s σ (ifFinite o run written) (ifFinite p run' written)
+    like-ifFinite = cond-keeps (LikeOutcome s σ) (like-finiteOutcome h) (λ e. h) (λ e. like-refused rangeRefusal r)
 
     like-settledAs : {a b : Answer} → LikeAnswer a b → LikeOutcome s σ (settledAs a o run written) (settledAs b p run' written)
-    like-settledAs (both-nis x) = like-inRange
-    like-settledAs both-fine = like-inRange
+    like-settledAs (both-nis x) = like-ifFinite
+    like-settledAs both-fine = like-ifFinite
     like-settledAs (both-refused {n}) = like-refused n r
 
     like-settled : LikeOutcome s σ (settled o run written) (settled p run' written)
@@ -175,14 +175,6 @@ module _ {s : Signs} {f g : EqFilter} (F : LikeFilter s noTurn noTurn f g) (A : 
   like-performed State h = record { answer = both-fine; values = stateToRun-turned (like-navState F) (sized-navState f) (sized-navState g); run = R }
 
 -- ---- the call
-and-left : (p q : Bool) → (p && q) ≡ true → p ≡ true
-and-left true q e = refl
-and-left false q e = e
-
-and-right : (p q : Bool) → (p && q) ≡ true → q ≡ true
-and-right true q e = e
-and-right false q e = absurd (true≢false (sym e))
-
 pub like-call : {s : Signs} {run run' v w : List Float} (kind : Kind) (written : List Float) → Turned (filterSigns s) run run' → Turned (callSigns kind s) v w
     → LikeOutcome s (valueSigns kind s) (call kind run v written) (call kind run' w written)
 unfolding call
@@ -201,8 +193,8 @@ like-call {s} {run} {run'} {v} {w} kind written R N =
     lengths e =
         let p = eqb (length run) filterLength in
         let q = eqb (length v) (callLength kind) in
-        let r = and-left (p && q) (eqb (length written) (writtenLength kind)) e in
-        (eqb-true (length run) filterLength (and-left p q r), eqb-true (length v) (callLength kind) (and-right p q r))
+        let r = and-eq-true-iff p q .0 (and-eq-true-iff (p && q) (eqb (length written) (writtenLength kind)) .0 e .0) in
+        (eqb-true (length run) filterLength (r .0), eqb-true (length v) (callLength kind) (r .1))
 
     done : (length run ≡ filterLength) × (length v ≡ callLength kind)
         → LikeOutcome s (valueSigns kind s) (performed (requestOf kind (fromRun run) v) (fromRun run) run written)

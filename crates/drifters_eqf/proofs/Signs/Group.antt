@@ -21,8 +21,8 @@ use Rattle.drifters_core.proofs.Signs.Ops.{like-sub, like-mul-as}
 use Rattle.drifters_core.proofs.Signs.Matrix.{like-matrix, like-column, like-of-column, like-transpose, like-matmul, like-identity, like-mulMat3Vec3}
 use Rattle.drifters_core.proofs.Signs.Vec3.{like-zeroVec3, like-toArray, like-addVec3, like-subVec3, like-negVec3, like-mulVec3, like-cross}
 use Rattle.drifters_core.proofs.Signs.Quat.{like-fromRotationVector, like-toDcm}
-use Rattle.drifters_eqf.specs.Lie.{addSe3, bracketSe3}
-use Rattle.drifters_eqf.specs.Group.{compose, inverse, toArray21, scaledAlgebra, vec3At, fromArray21, bracket, unit, ad, exp, adjointApply, defaultState, fromState, actState, actDirection, actPosition, actVelocity}
+use Rattle.drifters_eqf.specs.Lie.{vec3At, bracketSe3, addSe3}
+use Rattle.drifters_eqf.specs.Group.{compose, inverse, toArray21, scaledAlgebra, fromArray21, bracket, unit, ad, exp, adjointApply, defaultState, fromState, actState, actDirection, actPosition, actVelocity}
 use Rattle.drifters_eqf.specs.declared.group.Symmetry.{Symmetry}
 use Rattle.drifters_eqf.specs.declared.group.Algebra.{Algebra}
 use Rattle.drifters_eqf.specs.declared.group.State.{State}

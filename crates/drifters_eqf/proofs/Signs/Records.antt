@@ -1,8 +1,6 @@
 -- Records that are the same but for signs, both zeros counting as one. A frame has its signs: s is the reference frame's, b the body's,
 -- m the magnetometer's; a rotation has the signs of one frame for its rows and of another for its columns. Assumes nothing.
-use mathlib.Core.Path.{_≡_}
-use mathlib.Core.Bool.{Bool, false}
-use mathlib.Core.List.{List}
+use mathlib.Core.Bool.{false}
 use Prim.Native.Nat.{ℕ}
 use lib.Ieee.{Float}
 use Rattle.drifters_core.specs.Like.{Like, Signs, axis, LikeList, LikeVec3, LikeMatrix}

@@ -1,5 +1,5 @@
 -- Runs of numbers that are the same but for the signs of specs/Log.antt, and the records that they stand for. Assumes nothing.
-use Prim.Native.Nat.{ℕ, zero, suc, _+_, _-_, _*_, _/_, _%_, _≤_, _<_}
+use Prim.Native.Nat.{ℕ, zero, suc, _+_, _-_, _*_, _/_, _≤_, _<_}
 use native.Mathlib.Omega.{arith}
 use mathlib.Core.Path.{_≡_, refl, sym, ap, ap₂, _∙_, subst, subst₂}
 use mathlib.Core.Bool.{Bool, true, false, cond}
@@ -9,16 +9,14 @@ use lib.Dec.{ltb, lit<}
 use lib.ListN.{length, getD, take, drop}
 use lib.Seq.{getD-take, getD-drop, drop-drop}
 use lib.Ieee.{Float, nan, unlike}
-use Rattle.drifters_core.specs.Matrix.{at}
 use Rattle.drifters_core.specs.Like.{signed, Like, Signs, axis, LikeList, LikeVec3, LikeMatrix}
 use Rattle.drifters_core.proofs.Matrix.Tab.{length-tab, getD-tab}
 use Rattle.drifters_core.proofs.Matrix.Grid.{at-in, div-at, mod-at}
 use Rattle.drifters_core.proofs.Signs.Sign.{unlike-same, unlike-false, axis-add}
 use Rattle.drifters_core.proofs.Signs.Like.{like-as, like-sym, like-trans, like-signed}
 use Rattle.drifters_core.proofs.Signs.Matrix.{like-flat, like-matrix-as}
-use Rattle.drifters_core.proofs.Signs.Vec3.{below-three, like-vec3-as}
-use Rattle.drifters_core.specs.declared.math.vec3.Vec3.{Vec3}
-use Rattle.drifters_eqf.specs.Group.{vec3At}
+use Rattle.drifters_core.proofs.Signs.Vec3.{below-three}
+use Rattle.drifters_eqf.specs.Lie.{vec3At}
 use Rattle.drifters_eqf.specs.Log.{plain, thenSigns, matrixSigns, rowSigns, filterSigns, valueSigns, turned, Equal}
 use Rattle.drifters_eqf.specs.Run.{fromRun, stateFromRun}
 use Rattle.drifters_eqf.specs.declared.entry.Kind.the-variants.{State}
@@ -90,12 +88,6 @@ module _ (n m : ℕ) {a b : List Float} where
 
 -- ---- vectors and matrices at a place of a run
 module _ (σ : ℕ → Bool) (a b : List Float) (o : ℕ) where
-  pub like-vec3At : LikeList σ 3 (drop o a) (drop o b) → LikeVec3 σ (vec3At a o) (vec3At b o)
-  like-vec3At h = record { x = place 0 (lit< tt) o (omega arith); y = place 1 (lit< tt) (o + 1) refl; z = place 2 (lit< tt) (o + 2) refl }
-    where
-      place : (i : ℕ) → i < 3 → (j : ℕ) → o + i ≡ j → Like (σ i) (getD a j nan) (getD b j nan)
-      place i I j e = subst (λ (k : ℕ). Like (σ i) (getD a k nan) (getD b k nan)) e (subst₂ (Like (σ i)) (getD-drop o a i nan) (getD-drop o b i nan) (h .entry i I))
-
   pub like-at-vec3 : LikeVec3 σ (vec3At a o) (vec3At b o) → LikeList σ 3 (drop o a) (drop o b)
   like-at-vec3 h = record { entry = below-three (λ i. Like (σ i) (getD (drop o a) i nan) (getD (drop o b) i nan)) (place 0 o (omega arith) (h .x)) (place 1 (o + 1) refl (h .y)) (place 2 (o + 2) refl (h .z)) }
     where
@@ -122,9 +114,6 @@ axis-noTurn zero = refl
 axis-noTurn (suc zero) = refl
 axis-noTurn (suc (suc zero)) = refl
 axis-noTurn (suc (suc (suc i))) = axis-noTurn i
-
-pub like-vec3-plain : {v w : Vec3} → LikeVec3 plain v w → LikeVec3 (axis noTurn) v w
-like-vec3-plain h = like-vec3-as (λ i I. sym (axis-noTurn i)) h
 
 -- ---- from parts at their places to a run
 module _ (a b : List Float) (o : ℕ) where

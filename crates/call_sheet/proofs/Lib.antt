@@ -1,0 +1,2 @@
+-- The readings of the sheet.
+pub mod Readings
