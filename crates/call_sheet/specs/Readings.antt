@@ -1,12 +1,14 @@
 -- Readings of the sheet's layout and text: one table, and one theorem. Definitions and statements only.
-use Prim.Native.Nat.{ℕ}
+use Prim.Native.Nat.{ℕ, _+_}
 use mathlib.Core.Path.{_≡_}
+use mathlib.Core.Bool.{Bool, true, false, cond}
 use mathlib.Core.List.{List, [], _∷_, _++_, map}
+use mathlib.Core.Option.{Option, none, some}
 use lib.ListN.{replicate}
 use lib.Ieee.{binary64, ofBits}
 use Rattle.drifters_eqf.specs.declared.filter.Answer.the-variants.{Nis, Fine, Refused}
 use Rattle.drifters_eqf.specs.declared.entry.Kind.the-variants.{Position, State}
-use Rattle.call_sheet.specs.Sheet.{lineText, sheetText}
+use Rattle.call_sheet.specs.Sheet.{Sheet, headerFits, readSheet, lineText, sheetText}
 
 -- the text that a definition gives, and the text stated
 pub record Reading : Type 0 where
@@ -17,9 +19,26 @@ pub record Reading : Type 0 where
 abbrev pub reads : List ℕ → List ℕ → Reading
 reads given stated = record { given = given; stated = stated }
 
--- the file of a filter alone, of zeros: a count, one entry of kind 0 at the offset 12, 478 numbers
-abbrev pub filterAlone : List ℕ
-filterAlone = (1 ∷ 0 ∷ 0 ∷ 0 ∷ 0 ∷ 0 ∷ 0 ∷ 0 ∷ 12 ∷ 0 ∷ 0 ∷ 0 ∷ []) ++ replicate 3824 0
+-- 1 for true, 0 for false
+abbrev pub truth : Bool → List ℕ
+truth b = cond b 1 0 ∷ []
+
+-- a number of two bytes in the four bytes of a u32
+abbrev pub u32 : ℕ → ℕ → List ℕ
+u32 low high = low ∷ high ∷ 0 ∷ 0 ∷ []
+
+-- the file of a filter alone, of n bytes of zeros: a count, and one entry of kind 0 at the offset 12
+abbrev pub filterAlone : ℕ → List ℕ
+filterAlone n = u32 1 0 ++ u32 0 0 ++ u32 12 0 ++ replicate n 0
+
+-- the same with a call of a kind, its body of n bytes of zeros at an offset of two bytes after the filter's at 20
+abbrev pub oneCall : ℕ → ℕ → ℕ → ℕ → List ℕ
+oneCall kind low high n = u32 2 0 ++ u32 0 0 ++ u32 20 0 ++ u32 kind 0 ++ u32 low high ++ replicate (3824 + n) 0
+
+-- whether a file is a sheet
+abbrev pub isSheet : Option Sheet → Bool
+isSheet none = false
+isSheet (some s) = true
 
 -- `refused 6`
 abbrev pub refusedSix : List ℕ
@@ -37,14 +56,22 @@ readings =
     (51 ∷ 32 ∷ 50 ∷ 32 ∷ 114 ∷ 101 ∷ 102 ∷ 117 ∷ 115 ∷ 101 ∷ 100 ∷ 32 ∷ 52 ∷ 10 ∷ [])
     -- a state call at the last index
     ∷ reads (lineText 255 State Fine) (50 ∷ 53 ∷ 53 ∷ 32 ∷ 54 ∷ 32 ∷ 111 ∷ 107 ∷ 10 ∷ [])
-    -- no bytes, a count of 0, and one of 257
+    -- no bytes, and a count of 0, are refused
     ∷ reads (sheetText []) refusedSix
     ∷ reads (sheetText (replicate 12 0)) refusedSix
-    ∷ reads (sheetText (1 ∷ 1 ∷ 0 ∷ 0 ∷ [])) refusedSix
+    -- 256 entries are in range, 257 are not
+    ∷ reads (truth (headerFits (u32 0 1 ++ u32 0 0 ++ u32 4 8))) (truth true)
+    ∷ reads (truth (headerFits (u32 1 1 ++ u32 0 0 ++ u32 12 8))) (truth false)
     -- a filter alone prints nothing; a byte too many or too few is refused
-    ∷ reads (sheetText filterAlone) []
-    ∷ reads (sheetText (filterAlone ++ (0 ∷ []))) refusedSix
-    ∷ reads (sheetText ((1 ∷ 0 ∷ 0 ∷ 0 ∷ 0 ∷ 0 ∷ 0 ∷ 0 ∷ 12 ∷ 0 ∷ 0 ∷ 0 ∷ []) ++ replicate 3823 0)) refusedSix
+    ∷ reads (sheetText (filterAlone 3824)) []
+    ∷ reads (sheetText (filterAlone 3825)) refusedSix
+    ∷ reads (sheetText (filterAlone 3823)) refusedSix
+    -- a filter and a position call of 96 bytes at 3844; at 3843 or 3845, or of kind 0 or 7, it is no sheet
+    ∷ reads (truth (isSheet (readSheet (oneCall 2 4 15 96)))) (truth true)
+    ∷ reads (truth (isSheet (readSheet (oneCall 2 3 15 96)))) (truth false)
+    ∷ reads (truth (isSheet (readSheet (oneCall 2 5 15 96)))) (truth false)
+    ∷ reads (truth (isSheet (readSheet (oneCall 0 4 15 3824)))) (truth false)
+    ∷ reads (truth (isSheet (readSheet (oneCall 7 4 15 0)))) (truth false)
     ∷ []
 
 -- every row of the table is as stated

@@ -88,6 +88,13 @@ readSheet s =
     let place = tableBytes (countOf s) in
     cond (headerFits s) (sheetWith (f64sAt filterLength s place) (callsAt (countOf s - 1) 1 s (place + 8 * filterLength))) none
 
+-- ---- answers
+
+-- the answers of calls, each on the filter that the one before it left
+unfoldable pub answersFrom : List Float → List Call → List Answer
+answersFrom run [] = []
+answersFrom run (c ∷ cs) = outcome run c .answer ∷ answersFrom (outcome run c .run) cs
+
 -- ---- text, in ASCII
 
 -- ` `
@@ -116,15 +123,16 @@ answerText (Refused n) = refusedText n
 unfoldable pub lineText : ℕ → Kind → Answer → List ℕ
 lineText i kind a = decimal i ++ space ++ decimal (kindNumber kind) ++ space ++ answerText a ++ newline
 
--- the lines of calls from entry i on, each call on the filter that the one before it left
-unfoldable pub linesText : ℕ → List Float → List Call → List ℕ
-linesText i run [] = []
-linesText i run (c ∷ cs) = lineText i (c .kind) (outcome run c .answer) ++ linesText (i + 1) (outcome run c .run) cs
+-- the lines of calls with their answers, from entry i on
+unfoldable pub linesText : ℕ → List Call → List Answer → List ℕ
+linesText i [] answers = []
+linesText i (c ∷ cs) [] = []
+linesText i (c ∷ cs) (a ∷ answers) = lineText i (c .kind) a ++ linesText (i + 1) cs answers
 
 -- the text of a sheet; of a broken one only that it is refused
 abbrev pub textOf : Option Sheet → List ℕ
 textOf none = refusedText sheetRefusal ++ newline
-textOf (some sheet) = linesText 1 (sheet .filter) (sheet .calls)
+textOf (some sheet) = linesText 1 (sheet .calls) (answersFrom (sheet .filter) (sheet .calls))
 
 -- the text that is printed for a file's bytes
 unfoldable pub sheetText : List ℕ → List ℕ

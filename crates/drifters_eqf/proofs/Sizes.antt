@@ -52,12 +52,12 @@ symmetrized-updated w f k c y noise = (_, refl)
 pub sized-propagated : (f : EqFilter) (u : Input) (dt : Float) (q : ProcessNoise) → SizedFilter (propagated f u dt q)
 unfolding propagated
 sized-propagated f u dt q =
-    record { rotation = compose-rotation (f .x) _; e = compose-e (f .x) _; sigma = length-symmetrized _ (symmetrized-propagated f u dt q) }
+    record { rotation = compose-rotation _ _; e = compose-e _ _; sigma = length-symmetrized _ (symmetrized-propagated f u dt q) }
 
 pub sized-updated : (w : ℕ) (f : EqFilter) (k c y noise : List Float) → SizedFilter (updated w f k c y noise)
 unfolding updated
 sized-updated w f k c y noise =
-    record { rotation = compose-rotation _ (f .x); e = compose-e _ (f .x); sigma = length-symmetrized _ (symmetrized-updated w f k c y noise) }
+    record { rotation = compose-rotation _ _; e = compose-e _ _; sigma = length-symmetrized _ (symmetrized-updated w f k c y noise) }
 
 -- what one of two tests chooses
 sized-cond : (b : Bool) (a z : Answered) → SizedFilter (a .filter) → SizedFilter (z .filter) → SizedFilter (cond b a z .filter)

@@ -8,7 +8,7 @@ use lib.Ieee.{Float, nan}
 use Rattle.drifters_core.specs.Matrix.{allFinite}
 use Rattle.drifters_eqf.specs.Answer.{lengthRefusal, blankRefusal, rangeRefusal, valuesOf}
 use Rattle.drifters_eqf.specs.Lie.{vec3At}
-use Rattle.drifters_eqf.specs.Filter.{new, navState, inputAt, propagate, update, Measurement, measuredPosition, measuredVelocity, measuredDirection}
+use Rattle.drifters_eqf.specs.Filter.{new, navState, inputAt, propagate, Measurement, updateBy, measuredPosition, measuredVelocity, measuredDirection}
 use Rattle.drifters_eqf.specs.Run.{filterLength, stateLength, part, fromRun, toRun, stateFromRun, stateToRun}
 use Rattle.drifters_eqf.specs.declared.lift.Input.{Input}
 use Rattle.drifters_eqf.specs.declared.filter.ProcessNoise.{ProcessNoise}
@@ -89,7 +89,7 @@ outcomeOf a written = record { answer = a .answer; run = toRun (a .filter); writ
 -- what is asked, done: before the results are tested
 unfoldable pub performed : Request → EqFilter → List Float → List Float → Outcome
 performed (propagation u dt q) f run written = outcomeOf (propagate f u dt q) written
-performed (measurement w m noise) f run written = outcomeOf (update w f (m .output) (m .innovation) noise) written
+performed (measurement w m noise) f run written = outcomeOf (updateBy w f m noise) written
 performed estimate f run written = record { answer = Fine; run = run; written = stateToRun (navState f) }
 
 -- a refusal leaves every lent run as it was

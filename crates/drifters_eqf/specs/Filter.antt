@@ -182,21 +182,37 @@ pub record Measurement : Type 0 where
   pub output : List Float
   pub innovation : List Float
 
--- an antenna position
+-- the update by a measurement of w numbers
+abbrev pub updateBy : ℕ → EqFilter → Measurement → List Float → Answered
+updateBy w f m noise = update w f (m .output) (m .innovation) noise
+
+-- an antenna position, measured
 unfoldable pub measuredPosition : EqFilter → Vec3 → Measurement
 measuredPosition f antenna =
     let transported = transportedPosition (f .x) in
     record { output = positionOutputMatrix antenna transported; innovation = toArray (subVec3 transported antenna) }
 
--- an antenna velocity, at the rate that built it
+-- the update by an antenna position
+abbrev pub updatePosition : EqFilter → Vec3 → List Float → Answered
+updatePosition f antenna noise = updateBy 3 f (measuredPosition f antenna) noise
+
+-- an antenna velocity, measured at the rate that built it
 unfoldable pub measuredVelocity : EqFilter → Vec3 → Vec3 → Measurement
 measuredVelocity f antenna omega =
     let transported = transportedVelocity (f .x) omega in
     record { output = velocityOutputMatrix antenna transported (mulMat3Vec3 (f .x .c .rotation) omega); innovation = toArray (subVec3 transported antenna) }
 
--- a magnetometer direction, of a known north
+-- the update by an antenna velocity
+abbrev pub updateVelocity : EqFilter → Vec3 → Vec3 → List Float → Answered
+updateVelocity f antenna omega noise = updateBy 3 f (measuredVelocity f antenna omega) noise
+
+-- a magnetometer direction, measured of a known north
 unfoldable pub measuredDirection : EqFilter → Vec3 → Vec3 → Measurement
 measuredDirection f measured north =
     let origin = normalized north in
     let transported = transportedDirection (f .x) (normalized measured) in
     record { output = directionOutputMatrix origin transported; innovation = toArray (mulMat3Vec3 (skew origin) transported) }
+
+-- the update by a magnetometer direction
+abbrev pub updateDirection : EqFilter → Vec3 → Vec3 → List Float → Answered
+updateDirection f measured north noise = updateBy 3 f (measuredDirection f measured north) noise
