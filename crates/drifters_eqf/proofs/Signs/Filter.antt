@@ -2,7 +2,7 @@
 use mathlib.Core.Path.{_≡_, refl, sym, ap, ap₂, _∙_}
 use mathlib.Core.Bool.{Bool, false, _&&_}
 use mathlib.Core.List.{List}
-use Prim.Native.Nat.{ℕ, zero, suc}
+use Prim.Native.Nat.{ℕ}
 use lib.ListN.{getD}
 use lib.Ieee.{Float, nan, unlike}
 use Rattle.drifters_core.specs.Matrix.{matrix}
@@ -27,7 +27,7 @@ use Rattle.drifters_eqf.specs.declared.group.State.{State}
 use Rattle.drifters_eqf.specs.declared.lift.Input.{Input}
 use Rattle.drifters_eqf.specs.declared.filter.ProcessNoise.{ProcessNoise}
 use Rattle.drifters_eqf.specs.declared.filter.EqFilter.{EqFilter}
-use Rattle.drifters_eqf.proofs.Signs.Records.{noTurn, LikeSe3Tangent, LikeSymmetry, LikeAlgebra, LikeState, LikeInput, LikeProcessNoise, LikeFilter, both-nis, both-fine, both-refused, LikeAnswered, LikeMeasurement}
+use Rattle.drifters_eqf.proofs.Signs.Records.{noTurn, axis-noTurn, LikeSe3Tangent, LikeSymmetry, LikeAlgebra, LikeState, LikeInput, LikeProcessNoise, LikeFilter, both-nis, both-fine, both-refused, LikeAnswered, LikeMeasurement}
 use Rattle.drifters_eqf.proofs.Signs.Lie.{like-setBlock-axis, like-toArray-append, like-toArraySe3, like-chi, like-adjointApplySe3}
 use Rattle.drifters_eqf.proofs.Signs.Group.{like-compose, like-toArray21, like-scaledAlgebra, like-fromArray21, like-ad, like-exp, like-adjointApply, like-defaultState, like-fromState, like-actState}
 use Rattle.drifters_eqf.proofs.Signs.Lift.{like-lift}
@@ -71,12 +71,6 @@ like-transition h k =
     addMatrix-of (addMatrix-of like-identity refl aDt) refl (scaled-of (like-matmul aDt aDt) refl like-refl)
 
 -- ---- propagation: the noise, where the frames of the body and of the magnetometer are not turned: the unit inputs are the same on both sides
-axis-noTurn : (i : ℕ) → axis noTurn i ≡ false
-axis-noTurn zero = refl
-axis-noTurn (suc zero) = refl
-axis-noTurn (suc (suc zero)) = refl
-axis-noTurn (suc (suc (suc i))) = axis-noTurn i
-
 like-vec3-itself : {v : Vec3} → LikeVec3 (axis noTurn) v v
 like-vec3-itself = record { x = like-refl; y = like-refl; z = like-refl }
 

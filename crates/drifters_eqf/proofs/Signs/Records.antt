@@ -1,7 +1,8 @@
 -- Records that are the same but for signs, both zeros counting as one. A frame has its signs: s is the reference frame's, b the body's,
 -- m the magnetometer's; a rotation has the signs of one frame for its rows and of another for its columns. Assumes nothing.
+use mathlib.Core.Path.{_≡_, refl}
 use mathlib.Core.Bool.{false}
-use Prim.Native.Nat.{ℕ}
+use Prim.Native.Nat.{ℕ, zero, suc}
 use lib.Ieee.{Float}
 use Rattle.drifters_core.specs.Like.{Like, Signs, axis, LikeList, LikeVec3, LikeMatrix}
 use Rattle.drifters_eqf.specs.Filter.{Measurement}
@@ -22,6 +23,12 @@ use Rattle.drifters_eqf.specs.declared.filter.Answered.{Answered}
 -- no turn
 abbrev pub noTurn : Signs
 noTurn = record { first = false; second = false }
+
+pub axis-noTurn : (i : ℕ) → axis noTurn i ≡ false
+axis-noTurn zero = refl
+axis-noTurn (suc zero) = refl
+axis-noTurn (suc (suc zero)) = refl
+axis-noTurn (suc (suc (suc i))) = axis-noTurn i
 
 pub record LikeSe3Tangent (s : Signs) (u v : Se3Tangent) : Type 0 where
   pub omega : LikeVec3 (axis s) (u .omega) (v .omega)

@@ -1,5 +1,5 @@
 -- Runs of numbers that are the same but for the signs of specs/Log.antt, and the records that they stand for. Assumes nothing.
-use Prim.Native.Nat.{ℕ, zero, suc, _+_, _-_, _*_, _/_, _≤_, _<_}
+use Prim.Native.Nat.{ℕ, _+_, _-_, _*_, _/_, _≤_, _<_}
 use native.Mathlib.Omega.{arith}
 use mathlib.Core.Path.{_≡_, refl, sym, ap, ap₂, _∙_, subst, subst₂}
 use mathlib.Core.Bool.{Bool, true, false, cond}
@@ -20,7 +20,7 @@ use Rattle.drifters_eqf.specs.Lie.{vec3At}
 use Rattle.drifters_eqf.specs.Log.{plain, thenSigns, matrixSigns, rowSigns, filterSigns, valueSigns, turned, Equal}
 use Rattle.drifters_eqf.specs.Run.{fromRun, stateFromRun}
 use Rattle.drifters_eqf.specs.declared.entry.Kind.the-variants.{State}
-use Rattle.drifters_eqf.proofs.Signs.Records.{noTurn, LikeState, LikeFilter}
+use Rattle.drifters_eqf.proofs.Signs.Records.{noTurn, axis-noTurn, LikeState, LikeFilter}
 
 -- ---- two runs of as many numbers, the same but for signs
 pub record Turned (σ : ℕ → Bool) (a b : List Float) : Type 0 where
@@ -107,13 +107,6 @@ module _ (σ τ : ℕ → Bool) (r c : ℕ) {a b : List Float} where
   like-of-part h = record {
     entry = λ k K. subst₂ (Like (matrixSigns c σ τ k)) (getD-take (r * c) a k nan K) (getD-take (r * c) b k nan K) (like-flat h .entry k K);
   }
-
--- ---- no turn has no sign
-pub axis-noTurn : (i : ℕ) → axis noTurn i ≡ false
-axis-noTurn zero = refl
-axis-noTurn (suc zero) = refl
-axis-noTurn (suc (suc zero)) = refl
-axis-noTurn (suc (suc (suc i))) = axis-noTurn i
 
 -- ---- from parts at their places to a run
 module _ (a b : List Float) (o : ℕ) where
