@@ -1,2 +1,3 @@
--- The readings of the sheet.
+-- The theorems of the sheet.
+pub mod KindNumbers
 pub mod Readings

@@ -1,5 +1,6 @@
--- The call sheet of document 01: its layout, and the text that is printed for it. Definitions only.
+-- The call sheet of document 01: its layout, and the text that is printed for it. Definitions and statements only.
 use Prim.Native.Nat.{ℕ, zero, suc, _+_, _-_, _*_}
+use mathlib.Core.Path.{_≡_}
 use mathlib.Core.Bool.{Bool, _&&_, cond}
 use mathlib.Core.List.{List, [], _∷_, _++_}
 use mathlib.Core.Option.{Option, none, some}
@@ -55,6 +56,10 @@ allKinds = Propagate ∷ Position ∷ Velocity ∷ Direction ∷ General ∷ Sta
 unfoldable pub findKind : ℕ → List Kind → Option Kind
 findKind n [] = none
 findKind n (kind ∷ kinds) = cond (eqb n (kindNumber kind)) (some kind) (findKind n kinds)
+
+-- every kind is found by its number
+abbrev pub KindsFound : Type 0
+KindsFound = (kind : Kind) → findKind (kindNumber kind) allKinds ≡ some kind
 
 -- a call before others
 abbrev pub before : Call → Option (List Call) → Option (List Call)
