@@ -13,7 +13,7 @@ use Rattle.drifters_core.proofs.Signs.Like.{cond-keeps, like-as, like-refl}
 use Rattle.drifters_core.proofs.Signs.Ops.{like-mul}
 use Rattle.drifters_core.proofs.Signs.Compare.{like-le}
 use Rattle.drifters_core.proofs.Signs.Real.{like-abs}
-use Rattle.drifters_core.proofs.Signs.Vec3.{like-toArray, like-subVec3, like-norm, like-normalized, like-skew}
+use Rattle.drifters_core.proofs.Signs.Vec3.{like-vec3-refl, like-vec3-as, like-toArray, like-subVec3, like-norm, like-normalized, like-skew}
 use Rattle.drifters_core.proofs.Signs.Matrix.{like-matrix, like-zeros, like-column, like-of-column, like-transpose, like-addMatrix, like-matmul, like-mulTranspose, like-fromDiagonal, like-identity, like-symmetrize, like-mulMat3Vec3}
 use Rattle.drifters_core.proofs.Signs.Factor.{LikeFactor, like-cholesky, like-solve}
 use Rattle.drifters_core.proofs.Signs.Rules.{scaled-of, negMatrix-of, addMatrix-of, subMatrix-of}
@@ -72,7 +72,7 @@ like-transition h k =
 
 -- ---- propagation: the noise, where the frames of the body and of the magnetometer are not turned: the unit inputs are the same on both sides
 like-vec3-itself : {v : Vec3} → LikeVec3 (axis noTurn) v v
-like-vec3-itself = record { x = like-refl; y = like-refl; z = like-refl }
+like-vec3-itself = like-vec3-as (λ i I. sym (axis-noTurn i)) like-vec3-refl
 
 like-tangent-itself : {u : Se3Tangent} → LikeSe3Tangent noTurn u u
 like-tangent-itself = record { omega = like-vec3-itself; nu = like-vec3-itself }

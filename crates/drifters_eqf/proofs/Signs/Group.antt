@@ -3,8 +3,6 @@ use mathlib.Core.Path.{_≡_, refl, sym, ap, _∙_}
 use mathlib.Core.Bool.{Bool, true, false}
 use mathlib.Core.List.{List}
 use Prim.Native.Nat.{ℕ, _+_, _*_, _<_}
-use native.Mathlib.Nat.{add-zero}
-use native.Mathlib.Omega.{arith}
 use lib.Dec.{lit<, eqb}
 use borrow.Author.Tests.{eqb-true, eqb-false}
 use lib.ListN.{getD, getD-replicate}
@@ -21,13 +19,13 @@ use Rattle.drifters_core.proofs.Signs.Ops.{like-sub, like-mul-as}
 use Rattle.drifters_core.proofs.Signs.Matrix.{like-matrix, like-column, like-of-column, like-transpose, like-matmul, like-identity, like-mulMat3Vec3}
 use Rattle.drifters_core.proofs.Signs.Vec3.{like-zeroVec3, like-toArray, like-addVec3, like-subVec3, like-negVec3, like-mulVec3, like-cross}
 use Rattle.drifters_core.proofs.Signs.Quat.{like-fromRotationVector, like-toDcm}
-use Rattle.drifters_eqf.specs.Lie.{vec3At, bracketSe3, addSe3}
+use Rattle.drifters_eqf.specs.Lie.{bracketSe3, addSe3}
 use Rattle.drifters_eqf.specs.Group.{compose, inverse, toArray21, scaledAlgebra, fromArray21, bracket, unit, ad, exp, adjointApply, defaultState, fromState, actState, actDirection, actPosition, actVelocity}
 use Rattle.drifters_eqf.specs.declared.group.Symmetry.{Symmetry}
 use Rattle.drifters_eqf.specs.declared.group.Algebra.{Algebra}
 use Rattle.drifters_eqf.specs.declared.group.State.{State}
 use Rattle.drifters_eqf.proofs.Signs.Records.{LikeSymmetry, LikeAlgebra, LikeState}
-use Rattle.drifters_eqf.proofs.Signs.Lie.{like-toArray-append, like-scaledSe23, like-pi, like-zeroSe3Tangent, like-toArraySe3, like-fromArraySe3, like-bracketSe3, like-addSe3, like-subSe3, like-negSe3, like-leftJacobian, like-identitySe23, like-composeSe23, like-inverseSe23, like-adjointApplySe23, like-chi, like-expSe23, like-inverseSe3, like-adjointApplySe3, like-scaledSe3, like-integratedAdjoint}
+use Rattle.drifters_eqf.proofs.Signs.Lie.{like-toArray-append, like-vec3At, like-scaledSe23, like-pi, like-zeroSe3Tangent, like-toArraySe3, like-fromArraySe3, like-bracketSe3, like-addSe3, like-subSe3, like-negSe3, like-leftJacobian, like-identitySe23, like-composeSe23, like-inverseSe23, like-adjointApplySe23, like-chi, like-expSe23, like-inverseSe3, like-adjointApplySe3, like-scaledSe3, like-integratedAdjoint}
 
 -- ---- the group
 module _ {s b t m : Signs} {x x' : Symmetry} (h : LikeSymmetry s b t m x x') where
@@ -62,13 +60,6 @@ module _ {σ : ℕ → Bool} (again : (k i : ℕ) → σ (3 * k + i) ≡ σ i) w
       (like-toArray-append again e
       (like-toArray-append again f
       (like-toArray g))))))
-
-  pub like-vec3At : {n : ℕ} {v v' : List Float} → LikeList σ n v v' → (k : ℕ) → 3 * k + 2 < n → LikeVec3 σ (vec3At v (3 * k)) (vec3At v' (3 * k))
-  like-vec3At h k K = record {
-    x = like-as (ap σ (sym (add-zero (3 * k))) ∙ again k 0) (h .entry (3 * k) (omega arith));
-    y = like-as (again k 1) (h .entry (3 * k + 1) (omega arith));
-    z = like-as (again k 2) (h .entry (3 * k + 2) K);
-  }
 
 pub like-toArray21 : {s : Signs} {u u' : Algebra} → LikeAlgebra s s u u' → LikeList (axis s) 21 (toArray21 u) (toArray21 u')
 like-toArray21 {s} h = like-vectors (axis-add s) (h .c .omega) (h .c .nu) (h .c .rho) (h .gamma .omega) (h .gamma .nu) (h .delta) (h .e)

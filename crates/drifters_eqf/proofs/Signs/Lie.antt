@@ -3,6 +3,7 @@ use mathlib.Core.Path.{_≡_, refl, sym, ap, _∙_}
 use mathlib.Core.Bool.{Bool, true, false}
 use mathlib.Core.List.{List, _++_}
 use Prim.Native.Nat.{ℕ, zero, suc, _+_, _*_, _<_}
+use native.Mathlib.Nat.{add-zero}
 use native.Mathlib.Omega.{arith}
 use lib.Dec.{lit<}
 use lib.ListN.{getD}
@@ -23,7 +24,7 @@ use Rattle.drifters_core.proofs.Signs.Matrix.{like-zeros, like-matrix-as, like-
 use Rattle.drifters_core.proofs.Signs.Vec3.{like-zeroVec3, like-toArray, like-addVec3, like-subVec3, like-negVec3, like-mulVec3, like-cross, like-normSquared, like-skew, like-amaxVec3}
 use Rattle.drifters_core.proofs.Signs.Quat.{like-fromRotationVector, like-toDcm}
 use Rattle.drifters_core.proofs.Signs.Rules.{scaled-of, addMatrix-of}
-use Rattle.drifters_eqf.specs.Lie.{zeroSe3Tangent, toArraySe23, scaledSe23, pi, toArraySe3, fromArraySe3, bracketSe3, blocks6, adSe3, addSe3, subSe3, negSe3, addSe23, smallAngleSq, jacobianA, jacobianB, leftJacobian, identitySe23, composeSe23, inverseSe23, adjointApplySe23, chi, expSe23, inverseSe3, adjointSe3, adjointApplySe3, expSe3, sixteenth, scaledSe3, halvings, halved, seriesTerm, series, doubled, mostHalvings, integratedAdjoint}
+use Rattle.drifters_eqf.specs.Lie.{zeroSe3Tangent, scaledSe23, pi, toArraySe3, vec3At, fromArraySe3, bracketSe3, blocks6, adSe3, addSe3, subSe3, negSe3, addSe23, smallAngleSq, jacobianA, jacobianB, leftJacobian, identitySe23, composeSe23, inverseSe23, adjointApplySe23, chi, expSe23, inverseSe3, adjointSe3, adjointApplySe3, expSe3, sixteenth, scaledSe3, halvings, halved, seriesTerm, series, doubled, mostHalvings, integratedAdjoint}
 use Rattle.drifters_eqf.specs.declared.lie.Se23Tangent.{Se23Tangent}
 use Rattle.drifters_eqf.specs.declared.lie.Se3Tangent.{Se3Tangent}
 use Rattle.drifters_eqf.specs.declared.lie.Se23.{Se23}
@@ -49,11 +50,17 @@ like-toArray-append {σ} again {n} {v} {v'} {a} {a'} h k = record { entry = plac
     place (suc (suc zero)) I = h .z
     place (suc (suc (suc i))) I = like-as (sym (again 1 i) ∙ ap σ (three i)) (k .entry i (omega arith))
 
+-- three numbers of a list as a vector, the signs beginning anew after every third
+pub like-vec3At : {σ : ℕ → Bool} → ((k i : ℕ) → σ (3 * k + i) ≡ σ i) → {n : ℕ} {v v' : List Float} → LikeList σ n v v' → (k : ℕ) → 3 * k + 2 < n
+    → LikeVec3 σ (vec3At v (3 * k)) (vec3At v' (3 * k))
+like-vec3At {σ} again h k K = record {
+  x = like-as (ap σ (sym (add-zero (3 * k))) ∙ again k 0) (h .entry (3 * k) (omega arith));
+  y = like-as (again k 1) (h .entry (3 * k + 1) (omega arith));
+  z = like-as (again k 2) (h .entry (3 * k + 2) K);
+}
+
 -- ---- the algebras
 module _ {s : Signs} {u u' : Se23Tangent} (h : LikeSe23Tangent s u u') where
-  pub like-toArraySe23 : LikeList (axis s) 9 (toArraySe23 u) (toArraySe23 u')
-  like-toArraySe23 = like-toArray-append (axis-add s) (h .omega) (like-toArray-append (axis-add s) (h .nu) (like-toArray (h .rho)))
-
   pub like-scaledSe23 : {t t' : Float} → Like false t t' → LikeSe23Tangent s (scaledSe23 u t) (scaledSe23 u' t')
   unfolding scaledSe23
   like-scaledSe23 k = record { omega = like-mulVec3 (h .omega) k; nu = like-mulVec3 (h .nu) k; rho = like-mulVec3 (h .rho) k }
@@ -68,10 +75,7 @@ pub like-toArraySe3 : {s : Signs} {u u' : Se3Tangent} → LikeSe3Tangent s u u' 
 like-toArraySe3 {s} h = like-toArray-append (axis-add s) (h .omega) (like-toArray (h .nu))
 
 pub like-fromArraySe3 : {s : Signs} {v v' : List Float} → LikeList (axis s) 6 v v' → LikeSe3Tangent s (fromArraySe3 v) (fromArraySe3 v')
-like-fromArraySe3 h = record {
-  omega = record { x = h .entry 0 (lit< tt); y = h .entry 1 (lit< tt); z = h .entry 2 (lit< tt) };
-  nu = record { x = h .entry 3 (lit< tt); y = h .entry 4 (lit< tt); z = h .entry 5 (lit< tt) };
-}
+like-fromArraySe3 {s} h = record { omega = like-vec3At (axis-add s) h 0 (lit< tt); nu = like-vec3At (axis-add s) h 1 (lit< tt) }
 
 pub like-bracketSe3 : {s : Signs} {u u' v v' : Se3Tangent} → LikeSe3Tangent s u u' → LikeSe3Tangent s v v' → LikeSe3Tangent s (bracketSe3 u v) (bracketSe3 u' v')
 unfolding bracketSe3
