@@ -1,6 +1,6 @@
 -- Every kind of call is found by its number. Assumes nothing.
 use mathlib.Core.Path.{refl}
-use Rattle.drifters_eqf.specs.declared.entry.Kind.the-variants.{Propagate, Position, Velocity, Direction, General, State}
+use Rattle.drifters_eqf.specs.declared.kind.Kind.the-variants.{Propagate, Position, Velocity, Direction, General, State}
 use Rattle.call_sheet.specs.Sheet.{findKind, KindsFound}
 
 pub kindsFound : KindsFound

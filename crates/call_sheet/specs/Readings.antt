@@ -7,7 +7,7 @@ use mathlib.Core.Option.{Option, none, some}
 use lib.ListN.{replicate}
 use lib.Ieee.{binary64, ofBits}
 use Rattle.drifters_eqf.specs.declared.filter.Answer.the-variants.{Nis, Fine, Refused}
-use Rattle.drifters_eqf.specs.declared.entry.Kind.the-variants.{Position, State}
+use Rattle.drifters_eqf.specs.declared.kind.Kind.the-variants.{Position, State}
 use Rattle.call_sheet.specs.Sheet.{Sheet, headerFits, readSheet, lineText, sheetText}
 
 -- the text that a definition gives, and the text stated

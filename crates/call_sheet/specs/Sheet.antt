@@ -13,8 +13,8 @@ use Rattle.drifters_eqf.specs.Entry.{kindNumber, callLength}
 use Rattle.drifters_eqf.specs.Log.{Call, outcome}
 use Rattle.drifters_eqf.specs.declared.filter.Answer.{Answer}
 use Rattle.drifters_eqf.specs.declared.filter.Answer.the-variants.{Nis, Fine, Refused}
-use Rattle.drifters_eqf.specs.declared.entry.Kind.{Kind}
-use Rattle.drifters_eqf.specs.declared.entry.Kind.the-variants.{Propagate, Position, Velocity, Direction, General, State}
+use Rattle.drifters_eqf.specs.declared.kind.Kind.{Kind}
+use Rattle.drifters_eqf.specs.declared.kind.Kind.the-variants.{Propagate, Position, Velocity, Direction, General, State}
 use Rattle.call_sheet.specs.Bytes.{u32At, f64sAt, digits, decimal}
 
 -- ---- layout

@@ -1,1 +1,2 @@
-// Call sheets: a filter and calls as bytes, and the text of their answers. Definitions only, in specs/.
+// Call sheets: a filter and calls as bytes, and the text of their answers. Of the code the text of an answer; the rest are definitions, in specs/.
+pub mod text;

@@ -6,5 +6,6 @@ pub mod Sums
 pub mod Columns
 pub mod Place
 pub mod Block
+pub mod ByColumns
 pub mod Mirror
 pub mod Theorems

@@ -12,10 +12,10 @@ use Rattle.drifters_core.specs.Matrix.{tab}
 use Rattle.drifters_core.specs.Vec3.{toArray}
 use Rattle.drifters_core.specs.declared.math.shapes.Mat3.{Mat3}
 use Rattle.drifters_core.proofs.Matrix.Tab.{tab-is}
-use Rattle.drifters_eqf.specs.Lie.{mat3Of, toArraySe3, vec3At, se3TangentAt}
+use Rattle.drifters_symmetry.specs.Lie.{mat3Of, toArraySe3, vec3At, se3TangentAt}
 use Rattle.drifters_eqf.specs.Run.{filterLength, stateLength, sigmaPlace, gravityPlace, part, fromRun, toRun, stateFromRun, stateToRun, SizedFilter, SizedState, RoundTrips}
-use Rattle.drifters_eqf.specs.declared.group.Symmetry.{Symmetry}
-use Rattle.drifters_eqf.specs.declared.group.State.{State}
+use Rattle.drifters_symmetry.specs.declared.group.Symmetry.{Symmetry}
+use Rattle.drifters_symmetry.specs.declared.group.State.{State}
 use Rattle.drifters_eqf.specs.declared.filter.EqFilter.{EqFilter}
 
 -- a group element in the state's layout

@@ -7,13 +7,13 @@ use lib.ListN.{length}
 use lib.Ieee.{Float}
 use Rattle.drifters_core.specs.Matrix.{matmul, symmetrize}
 use Rattle.drifters_core.proofs.Matrix.Grid.{length-matrix}
-use Rattle.drifters_eqf.specs.Lie.{composeSe23}
-use Rattle.drifters_eqf.specs.Group.{compose, actState}
+use Rattle.drifters_symmetry.specs.Lie.{composeSe23}
+use Rattle.drifters_symmetry.specs.Group.{compose, actState}
 use Rattle.drifters_eqf.specs.Gcu.{definite}
 use Rattle.drifters_eqf.specs.Filter.{turnFits, navState, halfStep, fullStep, propagatedSigma, propagated, propagate, rawFactor, inflatedFactor, gain, correction, updated, update}
 use Rattle.drifters_eqf.specs.Run.{SizedFilter, SizedState}
-use Rattle.drifters_eqf.specs.declared.group.Symmetry.{Symmetry}
-use Rattle.drifters_eqf.specs.declared.lift.Input.{Input}
+use Rattle.drifters_symmetry.specs.declared.group.Symmetry.{Symmetry}
+use Rattle.drifters_symmetry.specs.declared.lift.Input.{Input}
 use Rattle.drifters_eqf.specs.declared.filter.ProcessNoise.{ProcessNoise}
 use Rattle.drifters_eqf.specs.declared.filter.EqFilter.{EqFilter}
 use Rattle.drifters_eqf.specs.declared.filter.Answered.{Answered}

@@ -18,8 +18,8 @@ use Rattle.drifters_eqf.specs.Entry.{startLength, Request, propagation, 
 use Rattle.drifters_eqf.specs.Log.{Call, logOf, filterSigns, turned, turnCall, turnLog, Equal, EqualCall, EqualLog}
 use Rattle.drifters_eqf.specs.declared.filter.EqFilter.{EqFilter}
 use Rattle.drifters_eqf.specs.declared.filter.Answer.the-variants.{Nis, Fine, Refused}
-use Rattle.drifters_eqf.specs.declared.entry.Kind.{Kind}
-use Rattle.drifters_eqf.specs.declared.entry.Kind.the-variants.{State}
+use Rattle.drifters_eqf.specs.declared.kind.Kind.{Kind}
+use Rattle.drifters_eqf.specs.declared.kind.Kind.the-variants.{State}
 
 -- ---- demand 1: bad input is refused by number, all else is accepted
 

@@ -7,17 +7,17 @@ use lib.ListN.{length, getD}
 use lib.Ieee.{Float, nan}
 use Rattle.drifters_core.specs.Matrix.{allFinite}
 use Rattle.drifters_eqf.specs.Answer.{lengthRefusal, blankRefusal, rangeRefusal, valuesOf}
-use Rattle.drifters_eqf.specs.Lie.{vec3At}
+use Rattle.drifters_symmetry.specs.Lie.{vec3At}
 use Rattle.drifters_eqf.specs.Filter.{new, navState, inputAt, propagate, Measurement, updateBy, measuredPosition, measuredVelocity, measuredDirection}
 use Rattle.drifters_eqf.specs.Run.{filterLength, stateLength, part, fromRun, toRun, stateFromRun, stateToRun}
-use Rattle.drifters_eqf.specs.declared.lift.Input.{Input}
+use Rattle.drifters_symmetry.specs.declared.lift.Input.{Input}
 use Rattle.drifters_eqf.specs.declared.filter.ProcessNoise.{ProcessNoise}
 use Rattle.drifters_eqf.specs.declared.filter.EqFilter.{EqFilter}
 use Rattle.drifters_eqf.specs.declared.filter.Answer.{Answer}
 use Rattle.drifters_eqf.specs.declared.filter.Answer.the-variants.{Nis, Fine, Refused}
 use Rattle.drifters_eqf.specs.declared.filter.Answered.{Answered}
-use Rattle.drifters_eqf.specs.declared.entry.Kind.{Kind}
-use Rattle.drifters_eqf.specs.declared.entry.Kind.the-variants.{Propagate, Position, Velocity, Direction, General, State}
+use Rattle.drifters_eqf.specs.declared.kind.Kind.{Kind}
+use Rattle.drifters_eqf.specs.declared.kind.Kind.the-variants.{Propagate, Position, Velocity, Direction, General, State}
 
 -- the number of a kind
 abbrev pub kindNumber : Kind → ℕ
@@ -81,6 +81,10 @@ pub record Outcome : Type 0 where
   pub answer : Answer
   pub run : List Float
   pub written : List Float
+
+-- an outcome of its parts
+abbrev pub outcome : Answer → List Float → List Float → Outcome
+outcome answer run written = record { answer = answer; run = run; written = written }
 
 -- an answer with the filter beside it; nothing else is written
 abbrev pub outcomeOf : Answered → List Float → Outcome

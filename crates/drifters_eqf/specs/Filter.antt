@@ -10,15 +10,15 @@ use Rattle.drifters_core.specs.Matrix.{matrix, zeros, transpose, matmul, mulTra
 use Rattle.drifters_core.specs.Vec3.{toArray, norm, normalized, skew, subVec3}
 use Rattle.drifters_core.specs.declared.math.vec3.Vec3.{Vec3}
 use Rattle.drifters_eqf.specs.Answer.{turnRefusal, pivotRefusal}
-use Rattle.drifters_eqf.specs.Lie.{toArraySe3, vec3At, fromArraySe3, chi, adjointApplySe3}
-use Rattle.drifters_eqf.specs.Group.{compose, toArray21, scaledAlgebra, fromArray21, unit, ad, exp, adjointApply, defaultState, fromState, actState}
-use Rattle.drifters_eqf.specs.Lift.{lift}
-use Rattle.drifters_eqf.specs.Linear.{stateMatrix, directionOutputMatrix, positionOutputMatrix, velocityOutputMatrix, transportedDirection, transportedPosition, transportedVelocity}
+use Rattle.drifters_symmetry.specs.Lie.{toArraySe3, vec3At, fromArraySe3, chi, adjointApplySe3}
+use Rattle.drifters_symmetry.specs.Group.{compose, toArray21, scaledAlgebra, fromArray21, unit, ad, exp, adjointApply, defaultState, fromState, actState}
+use Rattle.drifters_symmetry.specs.Lift.{lift}
+use Rattle.drifters_symmetry.specs.Linear.{stateMatrix, directionOutputMatrix, positionOutputMatrix, velocityOutputMatrix, transportedDirection, transportedPosition, transportedVelocity}
 use Rattle.drifters_eqf.specs.Gcu.{definite, entriesOf, nis, inflate}
-use Rattle.drifters_eqf.specs.declared.group.Symmetry.{Symmetry}
-use Rattle.drifters_eqf.specs.declared.group.Algebra.{Algebra}
-use Rattle.drifters_eqf.specs.declared.group.State.{State}
-use Rattle.drifters_eqf.specs.declared.lift.Input.{Input}
+use Rattle.drifters_symmetry.specs.declared.group.Symmetry.{Symmetry}
+use Rattle.drifters_symmetry.specs.declared.group.Algebra.{Algebra}
+use Rattle.drifters_symmetry.specs.declared.group.State.{State}
+use Rattle.drifters_symmetry.specs.declared.lift.Input.{Input}
 use Rattle.drifters_eqf.specs.declared.filter.ProcessNoise.{ProcessNoise}
 use Rattle.drifters_eqf.specs.declared.filter.EqFilter.{EqFilter}
 use Rattle.drifters_eqf.specs.declared.filter.Answer.the-variants.{Nis, Fine, Refused}
@@ -36,9 +36,13 @@ turnFits u = le (norm (u .c .omega)) turnLimit && le (norm (u .e)) turnLimit
 abbrev pub refuse : ℕ → EqFilter → Answered
 refuse n f = record { answer = Refused n; filter = f }
 
+-- a filter of its parts
+abbrev pub filterOf : Symmetry → List Float → Vec3 → Float → EqFilter
+filterOf x sigma gravity alpha = record { x = x; sigma = record { «data» = sigma }; gravity = gravity; alpha = alpha }
+
 -- the filter of an initial state and covariance
 unfoldable pub new : State → List Float → Vec3 → EqFilter
-new initial sigma gravity = record { x = fromState initial; sigma = record { «data» = sigma }; gravity = gravity; alpha = half }
+new initial sigma gravity = filterOf (fromState initial) sigma gravity half
 
 -- the estimate
 unfoldable pub navState : EqFilter → State

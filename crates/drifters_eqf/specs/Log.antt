@@ -10,8 +10,8 @@ use Rattle.drifters_core.specs.Matrix.{tab, zeros}
 use Rattle.drifters_core.specs.Like.{signed, Like, Signs, axis}
 use Rattle.drifters_eqf.specs.Answer.{numberOf, valuesOf}
 use Rattle.drifters_eqf.specs.Entry.{writtenLength, Outcome, call}
-use Rattle.drifters_eqf.specs.declared.entry.Kind.{Kind}
-use Rattle.drifters_eqf.specs.declared.entry.Kind.the-variants.{Propagate, Position, Velocity, Direction, General, State}
+use Rattle.drifters_eqf.specs.declared.kind.Kind.{Kind}
+use Rattle.drifters_eqf.specs.declared.kind.Kind.the-variants.{Propagate, Position, Velocity, Direction, General, State}
 
 -- ---- logs
 

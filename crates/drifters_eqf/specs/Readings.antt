@@ -8,7 +8,7 @@ use Rattle.drifters_real.specs.Scalar.{plusZero, one, two}
 use Rattle.drifters_real.specs.Real.{sqrt, sin, cos}
 use Rattle.drifters_core.specs.Matrix.{matmul, mulTranspose, symmetrize, Factor, none, lower, cholesky}
 use Rattle.drifters_core.specs.Vec3.{vec3, zeroVec3}
-use Rattle.drifters_eqf.specs.Lie.{se3Tangent, mostHalvings, halvings}
+use Rattle.drifters_symmetry.specs.Lie.{se3Tangent, mostHalvings, halvings}
 use Rattle.drifters_eqf.specs.Gcu.{beta}
 
 -- what a definition gives and what document 01 states, numbers as their bits

@@ -6,9 +6,9 @@ use lib.ListN.{length, getD, take, drop}
 use lib.Ieee.{Float, nan}
 use Rattle.drifters_core.specs.Vec3.{toArray}
 use Rattle.drifters_core.specs.declared.math.shapes.Mat3.{Mat3}
-use Rattle.drifters_eqf.specs.Lie.{mat3Of, toArraySe3, vec3At, se3TangentAt}
-use Rattle.drifters_eqf.specs.declared.lie.Se23.{Se23}
-use Rattle.drifters_eqf.specs.declared.group.State.{State}
+use Rattle.drifters_symmetry.specs.Lie.{mat3Of, toArraySe3, vec3At, se3TangentAt}
+use Rattle.drifters_symmetry.specs.declared.lie.Se23.{Se23}
+use Rattle.drifters_symmetry.specs.declared.group.State.{State}
 use Rattle.drifters_eqf.specs.declared.filter.EqFilter.{EqFilter}
 
 -- how many numbers a filter has

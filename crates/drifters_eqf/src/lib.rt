@@ -1,6 +1,4 @@
-// Port of drifters-eqf: the equivariant filter and its calls.
-pub mod entry;
+// Port of drifters-eqf's gcu.rs and filter.rs: the equivariant filter, by value. Its calls on lent runs are in drifters_entry.
 pub mod filter;
-pub mod group;
-pub mod lie;
-pub mod lift;
+pub mod gcu;
+pub mod kind;

@@ -190,7 +190,7 @@ pub(crate) fn block_into(
 }
 
 // Every entry is finite.
-pub(crate) fn all_finite(m: &[f64]) -> bool
+pub fn all_finite(m: &[f64]) -> bool
     ensures { λ r. ⌜ r ≡ allFinite (now (m .entry)) ⌝ }
 {
     let n = m.len();

@@ -51,6 +51,11 @@ pub struct Mat21x3 {
     pub data: [f64; 63],
 }
 
+// 21 by 6.
+pub struct Mat21x6 {
+    pub data: [f64; 126],
+}
+
 // 21 by 18.
 pub struct Mat21x18 {
     pub data: [f64; 378],
@@ -198,6 +203,14 @@ impl Mat6 {
     {
         let mut data = self.data;
         add_in(&mut data, &rhs.data, 36);
+        Mat6 { data }
+    }
+
+    pub fn neg(self) -> Mat6
+        ensures { λ r. ⌜ r .data ≡ negMatrix 36 (self .data) ⌝ }
+    {
+        let mut data = self.data;
+        neg_in(&mut data, 36);
         Mat6 { data }
     }
 }
@@ -426,6 +439,33 @@ impl Mat21x18 {
         Mat21x18 { data }
     }
 
+    // `src` in the block at (r0, c0); the matrix as it is where the block does not fit.
+    pub fn set_block(self, r0: usize, c0: usize, src: Mat3) -> Mat21x18
+        ensures { λ r. ⌜ r .data ≡ setBlock 21 18 3 3 r0 c0 (self .data) (src .data) ⌝ }
+    {
+        let mut data = self.data;
+        set_block_in(&mut data, &src.data, 21, 18, 3, 3, r0, c0);
+        Mat21x18 { data }
+    }
+
+    // `src` in the block at (r0, c0); the matrix as it is where the block does not fit.
+    pub fn set_block6(self, r0: usize, c0: usize, src: Mat6) -> Mat21x18
+        ensures { λ r. ⌜ r .data ≡ setBlock 21 18 6 6 r0 c0 (self .data) (src .data) ⌝ }
+    {
+        let mut data = self.data;
+        set_block_in(&mut data, &src.data, 21, 18, 6, 6, r0, c0);
+        Mat21x18 { data }
+    }
+
+    // `src` in the block at (r0, c0); the matrix as it is where the block does not fit.
+    pub fn set_block21x6(self, r0: usize, c0: usize, src: Mat21x6) -> Mat21x18
+        ensures { λ r. ⌜ r .data ≡ setBlock 21 18 21 6 r0 c0 (self .data) (src .data) ⌝ }
+    {
+        let mut data = self.data;
+        set_block_in(&mut data, &src.data, 21, 18, 21, 6, r0, c0);
+        Mat21x18 { data }
+    }
+
     pub fn matmul(self, rhs: Mat18) -> Mat21x18
         ensures { λ r. ⌜ r .data ≡ matmul 21 18 18 (self .data) (rhs .data) ⌝ }
     {
@@ -472,5 +512,15 @@ impl Vector3 {
         let mut data = [0.0; 9];
         mul_transpose_into(&self.data, &rhs.data, &mut t, &mut row, &mut data, 3, 1, 3);
         Mat3 { data }
+    }
+}
+
+impl Vector21 {
+    pub fn sub(self, rhs: Vector21) -> Vector21
+        ensures { λ r. ⌜ r .data ≡ subMatrix 21 (self .data) (rhs .data) ⌝ }
+    {
+        let mut data = self.data;
+        sub_in(&mut data, &rhs.data, 21);
+        Vector21 { data }
     }
 }

@@ -20,8 +20,8 @@ use Rattle.drifters_eqf.specs.declared.filter.EqFilter.{EqFilter}
 use Rattle.drifters_eqf.specs.declared.filter.Answer.{Answer}
 use Rattle.drifters_eqf.specs.declared.filter.Answer.the-variants.{Nis, Fine, Refused}
 use Rattle.drifters_eqf.specs.declared.filter.Answered.{Answered}
-use Rattle.drifters_eqf.specs.declared.entry.Kind.{Kind}
-use Rattle.drifters_eqf.specs.declared.entry.Kind.the-variants.{Propagate, Position, Velocity, Direction, General, State}
+use Rattle.drifters_eqf.specs.declared.kind.Kind.{Kind}
+use Rattle.drifters_eqf.specs.declared.kind.Kind.the-variants.{Propagate, Position, Velocity, Direction, General, State}
 
 -- ---- decisions
 

@@ -12,8 +12,8 @@ use Rattle.drifters_eqf.specs.Filter.{updated}
 use Rattle.drifters_eqf.specs.Run.{toRun, SizedFilter}
 use Rattle.drifters_eqf.specs.Demands.{FiniteMirrored, Demand1}
 use Rattle.drifters_eqf.specs.declared.filter.EqFilter.{EqFilter}
-use Rattle.drifters_eqf.specs.declared.entry.Kind.{Kind}
-use Rattle.drifters_eqf.specs.declared.entry.Kind.the-variants.{Propagate, Position, Velocity, Direction, General, State}
+use Rattle.drifters_eqf.specs.declared.kind.Kind.{Kind}
+use Rattle.drifters_eqf.specs.declared.kind.Kind.the-variants.{Propagate, Position, Velocity, Direction, General, State}
 use Rattle.drifters_eqf.proofs.Runs.{length-toRun, sigma-at}
 use Rattle.drifters_eqf.proofs.Sizes.{Symmetrized, symmetrized-propagated, symmetrized-updated, sized-propagated, sized-updated}
 use Rattle.drifters_eqf.proofs.Demands.Decision.{decision-accepted, checked, doneBy, call-decision, start-decision}

@@ -9,7 +9,7 @@ use Rattle.drifters_eqf.specs.Entry.{writtenLength, call}
 use Rattle.drifters_eqf.specs.Log.{Call, outcome, entriesFrom, filterSigns, valueSigns, turnCall, turnEntry, EqualCall, EqualEntry}
 use Rattle.drifters_eqf.specs.Demands.{Demand3}
 use Rattle.drifters_eqf.specs.declared.filter.Answer.{Answer}
-use Rattle.drifters_eqf.specs.declared.entry.Kind.{Kind}
+use Rattle.drifters_eqf.specs.declared.kind.Kind.{Kind}
 use Rattle.drifters_eqf.proofs.Signs.Records.{LikeAnswer, both-nis, both-fine, both-refused}
 use Rattle.drifters_eqf.proofs.Signs.Run.{Turned, turned-equal, equal-turned}
 use Rattle.drifters_eqf.proofs.Signs.Entry.{LikeOutcome, like-call}

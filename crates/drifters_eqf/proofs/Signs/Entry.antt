@@ -15,20 +15,21 @@ use Rattle.drifters_core.specs.Like.{Like, Signs, axis, LikeList, LikeVec3, Lik
 use Rattle.drifters_core.proofs.Signs.Like.{like-refl, cond-keeps}
 use Rattle.drifters_core.proofs.Signs.Matrix.{like-allFinite-list}
 use Rattle.drifters_eqf.specs.Answer.{lengthRefusal, blankRefusal, rangeRefusal, valuesOf}
-use Rattle.drifters_eqf.specs.Lie.{vec3At}
+use Rattle.drifters_symmetry.specs.Lie.{vec3At}
 use Rattle.drifters_eqf.specs.Filter.{inputAt, update, Measurement}
 use Rattle.drifters_eqf.specs.Run.{filterLength, part, fromRun, toRun, stateToRun, SizedFilter, SizedState}
 use Rattle.drifters_eqf.specs.Entry.{callLength, writtenLength, processNoiseAt, requestOf, Outcome, outcomeOf, performed, refused, finiteOutcome, ifFinite, settledAs, settled, lengthsFit, call}
 use Rattle.drifters_eqf.specs.Log.{plain, thenSigns, matrixSigns, noiseSigns, filterSigns, callSigns, valueSigns}
-use Rattle.drifters_eqf.specs.declared.group.State.{State as StateRecord}
+use Rattle.drifters_symmetry.specs.declared.group.State.{State as StateRecord}
 use Rattle.drifters_eqf.specs.declared.filter.EqFilter.{EqFilter}
 use Rattle.drifters_eqf.specs.declared.filter.Answer.{Answer}
 use Rattle.drifters_eqf.specs.declared.filter.Answered.{Answered}
-use Rattle.drifters_eqf.specs.declared.entry.Kind.{Kind}
-use Rattle.drifters_eqf.specs.declared.entry.Kind.the-variants.{Propagate, Position, Velocity, Direction, General, State}
+use Rattle.drifters_eqf.specs.declared.kind.Kind.{Kind}
+use Rattle.drifters_eqf.specs.declared.kind.Kind.the-variants.{Propagate, Position, Velocity, Direction, General, State}
 use Rattle.drifters_eqf.proofs.Runs.{roundTrips, length-toRun, length-stateToRun, sized-fromRun}
 use Rattle.drifters_eqf.proofs.Sizes.{sized-propagate, sized-update, sized-navState}
-use Rattle.drifters_eqf.proofs.Signs.Records.{noTurn, LikeState, LikeInput, LikeProcessNoise, LikeFilter, LikeAnswer, both-nis, both-fine, both-refused, LikeAnswered, LikeMeasurement}
+use Rattle.drifters_symmetry.proofs.Signs.Records.{noTurn, LikeState, LikeInput}
+use Rattle.drifters_eqf.proofs.Signs.Records.{LikeProcessNoise, LikeFilter, LikeAnswer, both-nis, both-fine, both-refused, LikeAnswered, LikeMeasurement}
 use Rattle.drifters_eqf.proofs.Signs.Filter.{like-navState, like-propagate, like-update, like-measuredPosition, like-measuredVelocity, like-measuredDirection}
 use Rattle.drifters_eqf.proofs.Signs.Run.{Turned, like-first, like-rest, like-part, like-fromRun, like-of-fromRun, like-of-stateFromRun}
 

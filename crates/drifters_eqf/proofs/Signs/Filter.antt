@@ -17,21 +17,22 @@ use Rattle.drifters_core.proofs.Signs.Vec3.{like-vec3-refl, like-vec3-as, like-
 use Rattle.drifters_core.proofs.Signs.Matrix.{like-matrix, like-zeros, like-column, like-of-column, like-transpose, like-addMatrix, like-matmul, like-mulTranspose, like-fromDiagonal, like-identity, like-symmetrize, like-mulMat3Vec3}
 use Rattle.drifters_core.proofs.Signs.Factor.{LikeFactor, like-cholesky, like-solve}
 use Rattle.drifters_core.proofs.Signs.Rules.{scaled-of, negMatrix-of, addMatrix-of, subMatrix-of}
-use Rattle.drifters_eqf.specs.Group.{toArray21}
-use Rattle.drifters_eqf.specs.Lift.{lift}
+use Rattle.drifters_symmetry.specs.Group.{toArray21}
+use Rattle.drifters_symmetry.specs.Lift.{lift}
 use Rattle.drifters_eqf.specs.Filter.{turnFits, refuse, new, navState, halfStep, midpoint, fullStep, transition, inputColumn, biasColumn, noiseMap, psd, processNoise, propagatedSigma, propagated, propagate, projected, rawFactor, inflatedFactor, gain, correction, joseph, resetSigma, updated, update, measuredPosition, measuredVelocity, measuredDirection}
-use Rattle.drifters_eqf.specs.declared.lie.Se3Tangent.{Se3Tangent}
-use Rattle.drifters_eqf.specs.declared.group.Symmetry.{Symmetry}
-use Rattle.drifters_eqf.specs.declared.group.Algebra.{Algebra}
-use Rattle.drifters_eqf.specs.declared.group.State.{State}
-use Rattle.drifters_eqf.specs.declared.lift.Input.{Input}
+use Rattle.drifters_symmetry.specs.declared.lie.Se3Tangent.{Se3Tangent}
+use Rattle.drifters_symmetry.specs.declared.group.Symmetry.{Symmetry}
+use Rattle.drifters_symmetry.specs.declared.group.Algebra.{Algebra}
+use Rattle.drifters_symmetry.specs.declared.group.State.{State}
+use Rattle.drifters_symmetry.specs.declared.lift.Input.{Input}
 use Rattle.drifters_eqf.specs.declared.filter.ProcessNoise.{ProcessNoise}
 use Rattle.drifters_eqf.specs.declared.filter.EqFilter.{EqFilter}
-use Rattle.drifters_eqf.proofs.Signs.Records.{noTurn, axis-noTurn, LikeSe3Tangent, LikeSymmetry, LikeAlgebra, LikeState, LikeInput, LikeProcessNoise, LikeFilter, both-nis, both-fine, both-refused, LikeAnswered, LikeMeasurement}
-use Rattle.drifters_eqf.proofs.Signs.Lie.{like-setBlock-axis, like-toArray-append, like-toArraySe3, like-chi, like-adjointApplySe3}
-use Rattle.drifters_eqf.proofs.Signs.Group.{like-compose, like-toArray21, like-scaledAlgebra, like-fromArray21, like-ad, like-exp, like-adjointApply, like-defaultState, like-fromState, like-actState}
-use Rattle.drifters_eqf.proofs.Signs.Lift.{like-lift}
-use Rattle.drifters_eqf.proofs.Signs.Linear.{like-stateMatrix, like-directionOutputMatrix, like-positionOutputMatrix, like-velocityOutputMatrix, like-transportedDirection, like-transportedPosition, like-transportedVelocity}
+use Rattle.drifters_symmetry.proofs.Signs.Records.{noTurn, axis-noTurn, LikeSe3Tangent, LikeSymmetry, LikeAlgebra, LikeState, LikeInput}
+use Rattle.drifters_eqf.proofs.Signs.Records.{LikeProcessNoise, LikeFilter, both-nis, both-fine, both-refused, LikeAnswered, LikeMeasurement}
+use Rattle.drifters_symmetry.proofs.Signs.Lie.{like-setBlock-axis, like-toArray-append, like-toArraySe3, like-chi, like-adjointApplySe3}
+use Rattle.drifters_symmetry.proofs.Signs.Group.{like-compose, like-toArray21, like-scaledAlgebra, like-fromArray21, like-ad, like-exp, like-adjointApply, like-defaultState, like-fromState, like-actState}
+use Rattle.drifters_symmetry.proofs.Signs.Lift.{like-lift}
+use Rattle.drifters_symmetry.proofs.Signs.Linear.{like-stateMatrix, like-directionOutputMatrix, like-positionOutputMatrix, like-velocityOutputMatrix, like-transportedDirection, like-transportedPosition, like-transportedVelocity}
 use Rattle.drifters_eqf.proofs.Signs.Gcu.{like-definite, like-entriesOf, like-nis, like-inflate}
 
 pub like-turnFits : {s m : Signs} {u u' : Algebra} → LikeAlgebra s m u u' → turnFits u ≡ turnFits u'

@@ -16,11 +16,12 @@ use Rattle.drifters_core.proofs.Signs.Sign.{unlike-same, unlike-false, axis-add
 use Rattle.drifters_core.proofs.Signs.Like.{like-as, like-sym, like-trans, like-signed}
 use Rattle.drifters_core.proofs.Signs.Matrix.{like-flat, like-matrix-as}
 use Rattle.drifters_core.proofs.Signs.Vec3.{below-three}
-use Rattle.drifters_eqf.specs.Lie.{vec3At}
+use Rattle.drifters_symmetry.specs.Lie.{vec3At}
 use Rattle.drifters_eqf.specs.Log.{plain, thenSigns, matrixSigns, rowSigns, filterSigns, valueSigns, turned, Equal}
 use Rattle.drifters_eqf.specs.Run.{fromRun, stateFromRun}
-use Rattle.drifters_eqf.specs.declared.entry.Kind.the-variants.{State}
-use Rattle.drifters_eqf.proofs.Signs.Records.{noTurn, axis-noTurn, LikeState, LikeFilter}
+use Rattle.drifters_eqf.specs.declared.kind.Kind.the-variants.{State}
+use Rattle.drifters_symmetry.proofs.Signs.Records.{noTurn, axis-noTurn, LikeState}
+use Rattle.drifters_eqf.proofs.Signs.Records.{LikeFilter}
 
 -- ---- two runs of as many numbers, the same but for signs
 pub record Turned (σ : ℕ → Bool) (a b : List Float) : Type 0 where

@@ -1,0 +1,129 @@
+// Makes one call of each kind on a filter, and one refusal of each number that a call can give, and prints the answers.
+use call_sheet::text::answer_text;
+use drifters_entry::entry;
+use drifters_eqf::filter::Answer;
+use libc::STDOUT_FILENO;
+
+// A line: what was called, and its answer.
+fn report(called: &[u8], answer: Answer) {
+    let text = answer_text(answer);
+    let bytes = text.bytes;
+    io::write_all(STDOUT_FILENO, called);
+    io::write_all(STDOUT_FILENO, b" ");
+    io::write_all(STDOUT_FILENO, &bytes[..text.length]);
+    io::write_all(STDOUT_FILENO, b"\n");
+}
+
+// The numbers of a start: at rest at the origin, covariance 1 in each place of the diagonal, gravity downwards.
+fn start_numbers() -> [f64; 477] {
+    let mut v = [0.0; 477];
+    v[0] = 1.0;
+    v[4] = 1.0;
+    v[8] = 1.0;
+    v[24] = 1.0;
+    v[28] = 1.0;
+    v[32] = 1.0;
+    for i in 0..21 {
+        v[33 + 22 * i] = 1.0;
+    }
+    v[476] = 9.81;
+    v
+}
+
+// A velocity and its rate, or a direction and north: two vectors, then noise.
+fn pair_numbers() -> [f64; 15] {
+    let mut v = [0.0; 15];
+    v[0] = 0.5;
+    v[1] = 0.25;
+    v[2] = -0.1;
+    v[3] = 0.4;
+    v[5] = 0.9;
+    v[6] = 0.04;
+    v[10] = 0.04;
+    v[14] = 0.04;
+    v
+}
+
+fn start(run: &mut [f64]) {
+    let v = start_numbers();
+    report(b"start", entry::start(run, &v));
+}
+
+// A propagation: a turn about the first axis at `rate`, the accelerometer at rest, the time `dt`, all densities `density`.
+fn propagate(run: &mut [f64], rate: f64, dt: f64, density: f64) {
+    let mut v = [density; 25];
+    v[0] = rate;
+    v[1] = -0.01;
+    v[2] = 0.3;
+    v[3] = 0.1;
+    v[4] = 0.0;
+    v[5] = -9.8;
+    v[6] = dt;
+    report(b"propagate", entry::propagate(run, &v));
+}
+
+// A propagation with 15 numbers in place of 25.
+fn propagate_by_few(run: &mut [f64]) {
+    let v = pair_numbers();
+    report(b"propagate", entry::propagate(run, &v));
+}
+
+// An antenna position with noise `variance` in each axis.
+fn update_position(run: &mut [f64], variance: f64) {
+    let mut v = [0.0; 12];
+    v[0] = 1.0;
+    v[1] = -0.5;
+    v[2] = 0.25;
+    v[3] = variance;
+    v[7] = variance;
+    v[11] = variance;
+    report(b"update_position", entry::update_position(run, &v));
+}
+
+fn update_velocity(run: &mut [f64]) {
+    let v = pair_numbers();
+    report(b"update_velocity", entry::update_velocity(run, &v));
+}
+
+fn update_direction(run: &mut [f64]) {
+    let v = pair_numbers();
+    report(b"update_direction", entry::update_direction(run, &v));
+}
+
+// A general update: the bias of the gyroscope, measured.
+fn update(run: &mut [f64]) {
+    let mut v = [0.0; 75];
+    v[9] = 1.0;
+    v[31] = 1.0;
+    v[53] = 1.0;
+    v[63] = 0.01;
+    v[64] = -0.02;
+    v[65] = 0.005;
+    v[66] = 0.25;
+    v[70] = 0.25;
+    v[74] = 0.25;
+    report(b"update", entry::update(run, &v));
+}
+
+fn nav_state(run: &[f64]) {
+    let mut state = [0.0; 33];
+    report(b"nav_state", entry::nav_state(run, &mut state));
+}
+
+// One call of each kind, each on the filter that the one before it left; then one refusal of each number: too few numbers, a number that
+// is infinite, a turn above 8, noise below 0, densities that overflow.
+fn main() {
+    let mut run = [0.0; 478];
+    start(&mut run);
+    propagate(&mut run, 0.02, 0.01, 0.001);
+    update_position(&mut run, 0.01);
+    update_velocity(&mut run);
+    update_direction(&mut run);
+    update(&mut run);
+    nav_state(&run);
+    propagate_by_few(&mut run);
+    propagate(&mut run, 1.0 / 0.0, 0.01, 0.001);
+    propagate(&mut run, 2000.0, 0.01, 0.001);
+    update_position(&mut run, -100.0);
+    propagate(&mut run, 0.02, 1.0, 1.0e308);
+}

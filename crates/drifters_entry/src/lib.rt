@@ -1,0 +1,3 @@
+// The entries: the calls on a filter that is lent as a run of numbers.
+pub mod entry;
+mod run;

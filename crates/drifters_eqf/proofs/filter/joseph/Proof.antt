@@ -1,0 +1,22 @@
+-- `filter::joseph` meets its contract.
+use Rattle.drifters_eqf.specs.Filter.{joseph}
+use Rattle.drifters_eqf.proofs.filter.joseph.Statement.{statement}
+use Rattle.drifters_eqf.proofs.filter.joseph.Tie as tie
+
+returns : tie.Need-returns
+unfolding joseph
+returns c =
+    let t = c .before in
+    let k = t .before in
+    let u = k .before in
+    let s = u .before .before .before .before .before in
+    let p = s .before in
+    let ikc = rw (p .before .identity .ensures, p .matmul21 .ensures) at (s .sub .ensures) in
+    let carried = rw ikc at (u .carry .ensures) in
+    let noise = rw (k .matmul3 .ensures) at (t .mul-transpose .ensures) in
+    rw (carried, noise) at (c .add .ensures)
+
+pub joseph-spec : {M : Type 1} → statement M
+joseph-spec =
+    tie.close
+    (tie.spec (λ c κs. tt) (λ c κs. tt) (λ c κs. tt) (λ c κs. tt) (λ c κs. tt) (λ c κs. tt) (λ c κs. tt) (λ c κs. tt) returns)

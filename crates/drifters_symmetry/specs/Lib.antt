@@ -1,0 +1,5 @@
+-- What a reader must believe: one file for each file of the original.
+pub mod Lie
+pub mod Group
+pub mod Lift
+pub mod Linear

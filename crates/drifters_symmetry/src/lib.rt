@@ -1,0 +1,5 @@
+// Port of drifters-eqf's lie.rs, group.rs, lift.rs and linear.rs: the symmetry group that the equivariant filter stands on.
+pub mod group;
+pub mod lie;
+pub mod lift;
+pub mod linear;
