@@ -36,6 +36,6 @@ unfoldable pub digits : ℕ → ℕ → ℕ → List ℕ
 digits b zero n = []
 digits b (suc k) n = digits b k (n / b) ++ (digit (n % b) ∷ [])
 
--- a number below 1000 in decimal, without leading zeros
+-- a number in decimal: one below 1000 without leading zeros, of a larger one the last three digits
 unfoldable pub decimal : ℕ → List ℕ
 decimal n = digits 10 (cond (ltb n 10) 1 (cond (ltb n 100) 2 3)) n

@@ -1,13 +1,14 @@
 // The text of an answer: `ok`, the digits of a normalised innovation squared, or the number of a refusal.
 ghost use mathlib.Core.Path.{_≡_};
-ghost use Prim.Native.Nat.{_≤_, _<_};
-ghost use lib.ListN.{length, take};
+ghost use Prim.Native.Nat.{_-_, _≤_, _<_};
+ghost use mathlib.Core.List.{_++_};
+ghost use lib.ListN.{length, replicate};
 ghost use lib.Ieee.{binary64, toBits};
 ghost use Rattle.call_sheet.specs.Bytes.{digit, digits, decimal};
 ghost use Rattle.call_sheet.specs.Sheet.{refusedText, answerText};
 use drifters_eqf::filter::Answer;
 
-// Text of at most 16 bytes: the first `length` of them.
+// Text of at most 16 bytes: the first `length` of them; the others are 0.
 pub struct Text {
     pub bytes: [u8; 16],
     pub length: usize,
@@ -15,7 +16,7 @@ pub struct Text {
 
 // The text of an answer.
 pub fn answer_text(answer: Answer) -> Text
-    ensures { λ r. ⌜ (take (r .length) (r .bytes) ≡ answerText answer) × (r .length ≤ 16) ⌝ }
+    ensures { λ r. ⌜ (r .length ≡ length (answerText answer)) × ((r .bytes ≡ answerText answer ++ replicate (16 - r .length) 0) × (r .length ≤ 16)) ⌝ }
 {
     let mut bytes = [0u8; 16];
     match answer {
@@ -34,7 +35,7 @@ pub fn answer_text(answer: Answer) -> Text
 
 // The text of a refusal.
 fn refused_text(n: u64) -> Text
-    ensures { λ r. ⌜ (take (r .length) (r .bytes) ≡ refusedText n) × (r .length ≤ 16) ⌝ }
+    ensures { λ r. ⌜ (r .length ≡ length (refusedText n)) × ((r .bytes ≡ refusedText n ++ replicate (16 - r .length) 0) × (r .length ≤ 16)) ⌝ }
 {
     let mut bytes = [
         b'r',
@@ -59,7 +60,7 @@ fn refused_text(n: u64) -> Text
     Text { bytes, length }
 }
 
-// How many digits a number below 1000 has in decimal.
+// How many digits of a number are printed in decimal: of one below 1000 all, of a larger one the last three.
 fn decimal_length(n: u64) -> usize
     ensures { λ r. ⌜ (decimal n ≡ digits 10 r n) × (r ≤ 3) ⌝ }
 {

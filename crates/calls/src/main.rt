@@ -49,7 +49,7 @@ fn start(run: &mut [f64]) {
     report(b"start", entry::start(run, &v));
 }
 
-// A propagation: a turn about the first axis at `rate`, the accelerometer at rest, the time `dt`, all densities `density`.
+// A propagation: a turn, `rate` of it about the first axis, near rest, over `dt`, with the density `density` for each source.
 fn propagate(run: &mut [f64], rate: f64, dt: f64, density: f64) {
     let mut v = [density; 25];
     v[0] = rate;
@@ -111,7 +111,8 @@ fn nav_state(run: &[f64]) {
 }
 
 // One call of each kind, each on the filter that the one before it left; then one refusal of each number: too few numbers, a number that
-// is infinite, a turn above 8, noise below 0, densities that overflow.
+// is infinite, a turn above 8, noise below 0, densities that overflow; and an update of the filter that these left as it was. A refusal 6 is a
+// call sheet's.
 fn main() {
     let mut run = [0.0; 478];
     start(&mut run);
@@ -126,4 +127,5 @@ fn main() {
     propagate(&mut run, 2000.0, 0.01, 0.001);
     update_position(&mut run, -100.0);
     propagate(&mut run, 0.02, 1.0, 1.0e308);
+    update(&mut run);
 }

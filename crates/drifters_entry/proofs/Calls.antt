@@ -13,7 +13,7 @@ use Rattle.drifters_real.specs.Real.{isFinite}
 use Rattle.drifters_core.specs.Matrix.{allFinite}
 use Rattle.drifters_eqf.specs.Answer.{lengthRefusal, blankRefusal, rangeRefusal}
 use Rattle.drifters_eqf.specs.Run.{filterLength, fromRun, toRun}
-use Rattle.drifters_eqf.specs.Entry.{callLength, writtenLength, requestOf, Outcome, outcome, outcomeOf, performed, refused, settledAs, settled, lengthsFit, call}
+use Rattle.drifters_eqf.specs.Entry.{callLength, writtenLength, requestOf, Outcome, outcome, outcomeOf, performed, refused, settledAs, settled, lengthsFit, firstRefusal, call}
 use Rattle.drifters_eqf.specs.declared.filter.Answer.{Answer}
 use Rattle.drifters_eqf.specs.declared.filter.Answer.the-variants.{Nis, Fine, Refused}
 use Rattle.drifters_eqf.specs.declared.filter.Answered.{Answered}
@@ -26,10 +26,6 @@ lengths-differ a m b n first second way =
     ⊎-elim (λ p. rw (ne-eqb a m (first p))) (λ q. rw (not-true (eqb b n) (second q)) (and-false (eqb a m))) way
 
 -- ---- what is tested before a call is begun
-
--- the number of the refusal of a filter's run and n numbers v, as `first_refusal` gives it
-abbrev pub firstRefusal : ℕ → List Float → List Float → ℕ
-firstRefusal n run v = cond (eqb (length run) filterLength && eqb (length v) n) (cond (allFinite run && allFinite v) 0 blankRefusal) lengthRefusal
 
 both-true : (s t : Bool) → s && t ≡ true → (s ≡ true) × (t ≡ true)
 both-true true t e = (refl, e)

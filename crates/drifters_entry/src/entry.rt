@@ -1,14 +1,10 @@
 // The calls on a filter that is lent as a run of numbers. Runs of any length come in; a call that is refused changes none of them.
 ghost use mathlib.Core.Path.{_≡_};
-ghost use mathlib.Core.Bool.{_&&_, cond};
 ghost use mathlib.Core.List.{[]};
 ghost use Prim.Native.Nat.{_+_, _≤_};
-ghost use lib.Dec.{eqb};
 ghost use lib.ListN.{length};
-ghost use Rattle.drifters_core.specs.Matrix.{allFinite};
-ghost use Rattle.drifters_eqf.specs.Answer.{lengthRefusal, blankRefusal};
 ghost use Rattle.drifters_eqf.specs.Run.{filterLength, part};
-ghost use Rattle.drifters_eqf.specs.Entry.{callLength, processNoiseAt, outcome, outcomeOf, settled, call, start};
+ghost use Rattle.drifters_eqf.specs.Entry.{callLength, processNoiseAt, outcome, outcomeOf, settled, firstRefusal, call, start};
 ghost use Rattle.drifters_eqf.specs.declared.kind.Kind.the-variants.{Propagate, Position, Velocity, Direction, General, State};
 use crate::run::FILTER_LENGTH;
 use crate::run::STATE_LENGTH;
@@ -171,7 +167,7 @@ pub fn start(run: &mut [f64], numbers: &[f64]) -> Answer
 
 // The refusal of a filter's run and a call's numbers before the call is begun, by length or blank; 0 where there is none.
 fn first_refusal(run: &[f64], numbers: &[f64], n: usize) -> u32
-    ensures { λ r. ⌜ r ≡ cond (eqb (length (now (run .entry))) filterLength && eqb (length (now (numbers .entry))) n) (cond (allFinite (now (run .entry)) && allFinite (now (numbers .entry))) 0 blankRefusal) lengthRefusal ⌝ }
+    ensures { λ r. ⌜ r ≡ firstRefusal n (now (run .entry)) (now (numbers .entry)) ⌝ }
 {
     if run.len() != FILTER_LENGTH || numbers.len() != n {
         return LENGTH_REFUSAL;

@@ -5,9 +5,9 @@ ghost use Prim.Native.Nat.{_+_, _≤_};
 ghost use lib.ListN.{length};
 ghost use Rattle.drifters_core.specs.Vec3.{toArray};
 ghost use Rattle.drifters_core.specs.Matrix.{allFinite};
-ghost use Rattle.drifters_symmetry.specs.Lie.{toArraySe3, vec3At, se3TangentAt};
+ghost use Rattle.drifters_symmetry.specs.Lie.{toArraySe3, vec3At};
 ghost use Rattle.drifters_eqf.specs.Filter.{filterOf};
-ghost use Rattle.drifters_eqf.specs.Run.{filterLength, stateLength, part, mat3At, poseOf, poseNumbers, fromRun, toRun, stateFromRun, stateToRun};
+ghost use Rattle.drifters_eqf.specs.Run.{filterLength, stateLength, part, mat3At, poseNumbers, fromRun, toRun, stateFromRun, stateToRun};
 use drifters_core::math::matrix::all_finite;
 use drifters_core::math::shapes::Mat3;
 use drifters_core::math::shapes::Mat21;
@@ -20,9 +20,9 @@ use drifters_symmetry::lie::Se3Tangent;
 use drifters_symmetry::lie::Se23;
 
 // How many numbers a filter and a state have.
-pub const FILTER_LENGTH: usize = 478;
+pub(crate) const FILTER_LENGTH: usize = 478;
 
-pub const STATE_LENGTH: usize = 33;
+pub(crate) const STATE_LENGTH: usize = 33;
 
 // Where the parts of a filter's run begin. A state has its biases, lever arm and calibration at the places of gamma, delta and E.
 const VELOCITY: usize = 9;
@@ -158,8 +158,8 @@ fn numbers_of(c: Se23, w: Se3Tangent, v: Vec3, m: Mat3) -> [f64; 33]
     ensures { λ r. ⌜ r ≡ poseNumbers c ++ toArraySe3 w ++ toArray v ++ m .data ⌝ }
 {
     let a = c.rotation.data;
-    let p = c.velocity;
-    let q = c.position;
+    let velocity = c.velocity;
+    let position = c.position;
     let o = w.omega;
     let n = w.nu;
     let e = m.data;
@@ -173,12 +173,12 @@ fn numbers_of(c: Se23, w: Se3Tangent, v: Vec3, m: Mat3) -> [f64; 33]
         a[6],
         a[7],
         a[8],
-        p.x,
-        p.y,
-        p.z,
-        q.x,
-        q.y,
-        q.z,
+        velocity.x,
+        velocity.y,
+        velocity.z,
+        position.x,
+        position.y,
+        position.z,
         o.x,
         o.y,
         o.z,

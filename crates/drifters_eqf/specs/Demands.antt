@@ -1,4 +1,7 @@
 -- The three demands, each a named statement. The proofs are in proofs/Demands/. Definitions and statements only.
+-- They are about the definitions `call` and `start`, and of the code the contracts say it: the outcome of an entry of drifters_entry is `call` at
+-- Propagate, Position, Velocity, Direction, General and State (propagate, update_position, update_velocity, update_direction, update, nav_state),
+-- and `start` (start); square root, sine and cosine are those of drifters_real.
 use Prim.Native.Nat.{ℕ, _+_, _*_, _<_}
 use mathlib.Core.Path.{_≡_}
 use mathlib.Core.Logic.{_↔_}
@@ -107,9 +110,7 @@ done (measurement w m noise) f run written =
     }
 done estimate f run written = record { answer = Fine; run = run; written = stateToRun (navState f) }
 
--- An accepted call is what is asked, done, and so is a start; the square root is the nearest f64; sine and cosine keep their bounds. Of the code
--- the contracts say it: of square root, sine and cosine in drifters_real, and of the entries propagate, update_position, update_velocity,
--- update_direction, update, nav_state and start, when they are written, with `call` at each kind and `start`.
+-- An accepted call is what is asked, done, and so is a start; the square root is the nearest f64; sine and cosine keep their bounds.
 pub record Demand2 : Type 0 where
   pub calls :
       (kind : Kind) (run v written : List Float) → firstOf (checks kind run v written) ≡ 0

@@ -114,13 +114,17 @@ settledAs (Nis x) o run written = ifFinite o run written
 settledAs Fine o run written = ifFinite o run written
 settledAs (Refused n) o run written = refused n run written
 
--- the same, by its own answer
+-- an outcome, settled by its own answer
 unfoldable pub settled : Outcome → List Float → List Float → Outcome
 settled o run written = settledAs (o .answer) o run written
 
 -- every lent run of a call has its stated length; where a call writes nothing beside the filter, `written` is empty
 abbrev pub lengthsFit : Kind → List Float → List Float → List Float → Bool
 lengthsFit kind run v written = eqb (length run) filterLength && eqb (length v) (callLength kind) && eqb (length written) (writtenLength kind)
+
+-- the number of the refusal, by length or blank, of a filter's run and numbers v that are to be n; 0 where there is none
+abbrev pub firstRefusal : ℕ → List Float → List Float → ℕ
+firstRefusal n run v = cond (eqb (length run) filterLength && eqb (length v) n) (cond (allFinite run && allFinite v) 0 blankRefusal) lengthRefusal
 
 -- a call of a kind with the numbers v, on the filter's run; `written` is the run that a state call writes
 unfoldable pub call : Kind → List Float → List Float → List Float → Outcome

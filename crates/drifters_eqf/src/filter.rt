@@ -1,5 +1,5 @@
-// Port of filter.rs: the filter, its propagation and its updates, by value. The right action: propagation composes on the right, the
-// correction of an update on the left.
+// Port of filter.rs: the filter, its propagation and its updates, by value. The group acts from the right: a propagation composes on the
+// right, the correction of an update on the left.
 ghost use mathlib.Core.Path.{_≡_};
 ghost use Prim.Native.Nat.{_<_};
 ghost use lib.ListN.{getD};
@@ -8,7 +8,7 @@ ghost use Rattle.drifters_core.specs.Matrix.{matrix, zeros, matmul, mulTranspos
 ghost use Rattle.drifters_core.specs.Vec3.{toArray};
 ghost use Rattle.drifters_symmetry.specs.Group.{toArray21};
 ghost use Rattle.drifters_symmetry.specs.Lift.{lift};
-ghost use Rattle.drifters_eqf.specs.Filter.{turnFits, new, navState, transition, inputAt, inputColumn, biasColumn, noiseMap, psd, processNoise, propagate, joseph, resetSigma, update, updatePosition, updateVelocity, updateDirection};
+ghost use Rattle.drifters_eqf.specs.Filter.{turnFits, refuse, new, navState, transition, inputAt, inputColumn, biasColumn, noiseMap, psd, processNoise, propagate, joseph, resetSigma, update, updatePosition, updateVelocity, updateDirection};
 use crate::gcu::inflate_at;
 use crate::gcu::nis;
 use drifters_cholesky::math::cholesky::Cholesky3;
@@ -117,19 +117,13 @@ impl EqFilter {
         let estimate = act_state(self.x, State::default());
         let start = lift(estimate, u, gravity).scaled(0.5 * dt);
         if !turn_fits(start) {
-            return Answered {
-                answer: Answer::Refused(TURN_REFUSAL),
-                filter: self,
-            };
+            return refuse(TURN_REFUSAL, self);
         }
         let half = self.x.compose(Symmetry::exp(start));
         let midpoint = act_state(half, State::default());
         let step = lift(midpoint, u, gravity).scaled(dt);
         if !turn_fits(step) {
-            return Answered {
-                answer: Answer::Refused(TURN_REFUSAL),
-                filter: self,
-            };
+            return refuse(TURN_REFUSAL, self);
         }
         let x = self.x.compose(Symmetry::exp(step));
         let phi = transition(state_matrix(half, u, gravity), dt);
@@ -190,28 +184,19 @@ impl EqFilter {
         let projected = c_sigma.mul_transpose(c);
         let raw = Cholesky3::new(projected.add(noise));
         if !raw.definite {
-            return Answered {
-                answer: Answer::Refused(PIVOT_REFUSAL),
-                filter: self,
-            };
+            return refuse(PIVOT_REFUSAL, self);
         }
         let r = nis(raw.factor, y);
         let chol = Cholesky3::new(inflate_at(r, y, projected, noise, alpha));
         if !chol.definite {
-            return Answered {
-                answer: Answer::Refused(PIVOT_REFUSAL),
-                filter: self,
-            };
+            return refuse(PIVOT_REFUSAL, self);
         }
         let gain = chol.factor.solve(c_sigma).transpose();
         let delta = gain.matmul_vector(y);
         let correction = delta.data;
         let step = Algebra::from_array(correction);
         if !turn_fits(step) {
-            return Answered {
-                answer: Answer::Refused(TURN_REFUSAL),
-                filter: self,
-            };
+            return refuse(TURN_REFUSAL, self);
         }
         let x = Symmetry::exp(step).compose(self.x);
         let prior = self.sigma;
@@ -226,6 +211,16 @@ impl EqFilter {
                 alpha,
             },
         }
+    }
+}
+
+// A refusal, beside the filter as it was.
+fn refuse(n: u32, filter: EqFilter) -> Answered
+    ensures { λ r. ⌜ r ≡ refuse n filter ⌝ }
+{
+    Answered {
+        answer: Answer::Refused(n),
+        filter,
     }
 }
 
@@ -269,8 +264,8 @@ fn noise_map(x: Symmetry, estimate: State, gravity: Vec3) -> Mat21x18
 fn input_columns(x: Symmetry, estimate: State, gravity: Vec3) -> Mat21x6
     ensures { λ r. ⌜ r .data ≡ matrix 21 6 (λ i k. getD (inputColumn x estimate gravity k) i nan) ⌝ }
 {
-    let none = [0.0; 6];
-    let quiet = lift(estimate, input_of(none), gravity).to_array();
+    let zero = [0.0; 6];
+    let quiet = lift(estimate, input_of(zero), gravity).to_array();
     let mut data = [0.0; 126];
     for k in 0..6 {
         set_column21x6(&mut data, k, input_column(x, estimate, gravity, quiet, k));
@@ -332,31 +327,31 @@ fn bias_column(x: Symmetry, k: usize) -> [f64; 6]
 fn psd(q: ProcessNoise) -> [f64; 18]
     ensures { λ r. ⌜ r ≡ psd q ⌝ }
 {
-    let g = q.gyro;
-    let a = q.accel;
-    let v = q.gyro_bias;
-    let w = q.accel_bias;
-    let l = q.lever;
-    let m = q.mag;
+    let gyro = q.gyro;
+    let accel = q.accel;
+    let gyro_bias = q.gyro_bias;
+    let accel_bias = q.accel_bias;
+    let lever = q.lever;
+    let mag = q.mag;
     [
-        g.x,
-        g.y,
-        g.z,
-        a.x,
-        a.y,
-        a.z,
-        v.x,
-        v.y,
-        v.z,
-        w.x,
-        w.y,
-        w.z,
-        l.x,
-        l.y,
-        l.z,
-        m.x,
-        m.y,
-        m.z,
+        gyro.x,
+        gyro.y,
+        gyro.z,
+        accel.x,
+        accel.y,
+        accel.z,
+        gyro_bias.x,
+        gyro_bias.y,
+        gyro_bias.z,
+        accel_bias.x,
+        accel_bias.y,
+        accel_bias.z,
+        lever.x,
+        lever.y,
+        lever.z,
+        mag.x,
+        mag.y,
+        mag.z,
     ]
 }
 

@@ -1,4 +1,4 @@
-// Port of gcu.rs: inflation of the innovation covariance, so that a surprising measurement weighs little.
+// Port of gcu.rs: inflation of the innovation covariance by the normalised innovation squared.
 ghost use mathlib.Core.Path.{_≡_};
 ghost use Rattle.drifters_eqf.specs.Gcu.{dotVector, beta, nis, inflatedBy, inflate};
 use drifters_cholesky::math::cholesky::Cholesky3;
@@ -45,7 +45,7 @@ pub fn nis(factor: Cholesky3, innovation: Vector3) -> f64
     dot(innovation, factor.solve_vector(innovation))
 }
 
-// The factor of inflation: from 1 at r = 0 to 2 at r = 1 and beyond.
+// The factor of inflation: from 1 at r = 0 to 2 at r = 1, and 2 for larger r and for not a number; 1 / (1 + r) below 0.
 pub fn beta(r: f64) -> f64
     ensures { λ b. ⌜ b ≡ beta r ⌝ }
 {

@@ -177,45 +177,17 @@ impl Algebra {
         ensures { λ r. ⌜ r ≡ fromArray21 v ⌝ }
     {
         Algebra {
-            c: Se23Tangent {
-                omega: Vec3 {
-                    x: v[0],
-                    y: v[1],
-                    z: v[2],
-                },
-                nu: Vec3 {
-                    x: v[3],
-                    y: v[4],
-                    z: v[5],
-                },
-                rho: Vec3 {
-                    x: v[6],
-                    y: v[7],
-                    z: v[8],
-                },
-            },
-            gamma: Se3Tangent {
-                omega: Vec3 {
-                    x: v[9],
-                    y: v[10],
-                    z: v[11],
-                },
-                nu: Vec3 {
-                    x: v[12],
-                    y: v[13],
-                    z: v[14],
-                },
-            },
-            delta: Vec3 {
-                x: v[15],
-                y: v[16],
-                z: v[17],
-            },
-            e: Vec3 {
-                x: v[18],
-                y: v[19],
-                z: v[20],
-            },
+            c: Se23Tangent::new(
+                Vec3::new(v[0], v[1], v[2]),
+                Vec3::new(v[3], v[4], v[5]),
+                Vec3::new(v[6], v[7], v[8]),
+            ),
+            gamma: Se3Tangent::new(
+                Vec3::new(v[9], v[10], v[11]),
+                Vec3::new(v[12], v[13], v[14]),
+            ),
+            delta: Vec3::new(v[15], v[16], v[17]),
+            e: Vec3::new(v[18], v[19], v[20]),
         }
     }
 
@@ -285,12 +257,12 @@ impl State {
 pub fn act_state(x: Symmetry, xi: State) -> State
     ensures { λ r. ⌜ r ≡ actState x xi ⌝ }
 {
-    let t = x.a().transpose();
+    let a_t = x.a().transpose();
     State {
         pose: xi.pose.compose(x.c),
         bias: x.b().inverse().adjoint_apply(xi.bias.sub(x.gamma)),
-        lever: t.mul_vec3(xi.lever.sub(x.delta)),
-        mag: t.matmul(xi.mag).matmul(x.e),
+        lever: a_t.mul_vec3(xi.lever.sub(x.delta)),
+        mag: a_t.matmul(xi.mag).matmul(x.e),
     }
 }
 

@@ -10,14 +10,14 @@ array-share-prefix-bytes : tie.Need-array-share-prefix-bytes
 array-share-prefix-bytes c =
     let text = c .before .before .before .before .answer-text in
     let held : length (text .result .bytes) ≡ 16 = search needs in
-    omega (arith, text .ensures .1)
+    omega (arith, text .ensures .1 .1)
 
 slice-aggregate-write-all-2 : tie.Need-slice-aggregate-write-all-2
 slice-aggregate-write-all-2 c =
     let text = c .before .before .before .before .before .answer-text in
     let held : length (text .result .bytes) ≡ 16 = search needs in
     let taken = length-take (text .result .length) (text .result .bytes) in
-    omega (arith, text .ensures .1)
+    omega (arith, text .ensures .1 .1)
 
 pub report-spec : {M : Type 1} → statement M
 report-spec =

@@ -1,7 +1,7 @@
 // Port of math/matrix.rs, for all dimensions: a matrix is a run of its entries, row by row. shapes.rt has a record for each shape in use;
 // the factorisation is in drifters_cholesky.
 ghost use mathlib.Core.Path.{_≡_};
-ghost use Prim.Native.Nat.{_+_, _*_, _≤_, _<_};
+ghost use Prim.Native.Nat.{_+_, _*_, _≤_};
 ghost use lib.Dec.{leb};
 ghost use lib.ListN.{length, getD};
 ghost use lib.Ieee.{nan};

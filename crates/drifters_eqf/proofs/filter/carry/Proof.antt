@@ -1,5 +1,4 @@
 -- `carry` meets its contract.
-use borrow.Author.Needs.{needs}
 use Rattle.drifters_eqf.proofs.filter.carry.Statement.{statement}
 use Rattle.drifters_eqf.proofs.filter.carry.Tie as tie
 

@@ -51,7 +51,9 @@ half-turn t = t .turn-fits .ensures ∙ ap turnFits (half-is (t .before))
 
 returns : tie.Need-returns
 unfolding propagate
-returns c = rw (sym (half-turn (c .before)) ∙ not-true _ (c .if1 .taken))
+returns c =
+    let e = c .before in
+    rw (sym (half-turn (e .before)) ∙ not-true _ (e .if1 .taken)) (c .refuse .ensures)
 
 -- ---- the full step, where the turn of the half step fits
 
@@ -83,8 +85,9 @@ full-turn t = t .turn-fits2 .ensures ∙ ap turnFits (full-is (t .before))
 returns-2 : tie.Need-returns-2
 unfolding propagate
 returns-2 c =
-    let t = c .before in
-    rw (half-true (t .before .before .before .before .before .before .before), sym (full-turn t) ∙ not-true _ (c .if2 .taken))
+    let e = c .before in
+    let t = e .before in
+    rw (half-true (t .before .before .before .before .before .before .before), sym (full-turn t) ∙ not-true _ (e .if2 .taken)) (c .refuse2 .ensures)
 
 -- ---- the filter after propagation, where that of the full step fits
 
@@ -131,7 +134,9 @@ propagate-spec =
     (λ c κs. tt)
     (λ c κs. tt)
     (λ c κs. tt)
+    (λ c κs. tt)
     returns
+    (λ c κs. tt)
     (λ c κs. tt)
     (λ c κs. tt)
     (λ c κs. tt)

@@ -52,7 +52,9 @@ raw-definite n = factored-definite _ (n .new .ensures) ∙ ap definite (raw-is n
 
 returns : tie.Need-returns
 unfolding update
-returns c = rw (sym (raw-definite (c .before .before)) ∙ not-true _ (c .if1 .taken))
+returns c =
+    let e = c .before in
+    rw (sym (raw-definite (e .before .before)) ∙ not-true _ (e .if1 .taken)) (c .refuse .ensures)
 
 -- ---- the inflated matrix, where the raw one has a factor
 
@@ -89,8 +91,9 @@ inflated-definite m = factored-definite _ (m .new2 .ensures) ∙ ap definite (in
 returns-2 : tie.Need-returns-2
 unfolding update
 returns-2 c =
-    let m = c .before .before in
-    rw (raw-true (m .before .before .before), sym (inflated-definite m) ∙ not-true _ (c .if2 .taken))
+    let e = c .before in
+    let m = e .before .before in
+    rw (raw-true (m .before .before .before), sym (inflated-definite m) ∙ not-true _ (e .if2 .taken)) (c .refuse2 .ensures)
 
 -- ---- the correction, where the inflated one has a factor
 
@@ -134,9 +137,10 @@ turn-is t = t .turn-fits .ensures ∙ ap turnFits (step-is (t .before))
 returns-3 : tie.Need-returns-3
 unfolding update
 returns-3 c =
-    let t = c .before in
+    let f = c .before in
+    let t = f .before in
     let e = t .before .before .before .before .before .before in
-    rw (raw-true (e .before .before .before .before .before), inflated-true e, sym (turn-is t) ∙ not-true _ (c .if3 .taken))
+    rw (raw-true (e .before .before .before .before .before), inflated-true e, sym (turn-is t) ∙ not-true _ (f .if3 .taken)) (c .refuse3 .ensures)
 
 -- ---- the filter after the update
 
@@ -178,11 +182,14 @@ update-spec =
     (λ c κs. tt)
     (λ c κs. tt)
     (λ c κs. tt)
+    (λ c κs. tt)
     returns
     (λ c κs. tt)
     (λ c κs. tt)
     (λ c κs. tt)
+    (λ c κs. tt)
     returns-2
+    (λ c κs. tt)
     (λ c κs. tt)
     (λ c κs. tt)
     (λ c κs. tt)
