@@ -5,7 +5,17 @@ use Rattle.drifters_eqf.proofs.gcu.inflate_at.Tie as tie
 
 returns : tie.Need-returns
 unfolding inflatedBy
-returns c = cc
+returns c =
+    let a = c .before in
+    let s = a .before in
+    let k = s .before in
+    let p = k .before in
+    let m = p .before in
+    let b = m .before .beta .ensures in
+    let projected = rw b at (p .scaled .ensures) in
+    let along = rw (m .mul-transpose .ensures, b, k .clamp .ensures) at (s .scaled2 .ensures) in
+    let sum = rw (projected, along) at (a .add .ensures) in
+    rw sum at (c .add2 .ensures)
 
 pub inflate-at-spec : {M : Type 1} → statement M
 inflate-at-spec =
