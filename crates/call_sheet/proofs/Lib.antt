@@ -1,3 +1,9 @@
--- The theorems of the sheet.
+-- The theorems of the sheet, and the laws that their proofs share.
 pub mod KindNumbers
+pub mod Placed
+pub mod Digits
+pub mod SheetLayout
+pub mod Held
+pub mod Lines
+pub mod TextLength
 pub mod Readings

@@ -2,9 +2,10 @@
 use mathlib.Core.Path.{refl}
 use lib.Ieee.{ofBits, toBits}
 use Rattle.call_sheet.specs.Bytes.{digits, decimal}
-use Rattle.call_sheet.specs.Sheet.{findKind, callsAt, headerFits, readSheet, answersFrom, lineText, linesText, sheetText}
+use Rattle.call_sheet.specs.Sheet.{findKind, callsAt, headerFits, readSheet}
+use Rattle.call_sheet.specs.Text.{numbersOf, lineText, linesText, sheetText}
 use Rattle.call_sheet.specs.Readings.{readings, Readings}
 
 pub textReadings : Readings
-unfolding readings digits decimal findKind callsAt headerFits readSheet answersFrom lineText linesText sheetText ofBits toBits
+unfolding readings digits decimal findKind callsAt headerFits readSheet numbersOf lineText linesText sheetText ofBits toBits
 textReadings = refl

@@ -3,8 +3,7 @@ use Prim.Native.Nat.{ℕ, zero, suc, _+_, _*_, _/_, _%_, _^_}
 use mathlib.Core.Bool.{cond}
 use mathlib.Core.List.{List, [], _∷_, _++_}
 use lib.Dec.{ltb}
-use lib.ListN.{getD}
-use lib.Ieee.{Float, binary64, ofBits}
+use lib.ListN.{length, take, drop, getD}
 use Rattle.drifters_core.specs.Matrix.{tab}
 
 -- the byte at a place
@@ -19,13 +18,13 @@ u32At s i = byteAt s i + 256 * (byteAt s (i + 1) + 256 * (byteAt s (i + 2) + 256
 abbrev pub u64At : List ℕ → ℕ → ℕ
 u64At s i = u32At s i + 2 ^ 32 * u32At s (i + 4)
 
--- the f64 whose bits these are
-unfoldable pub f64At : List ℕ → ℕ → Float
-f64At s i = ofBits binary64 (u64At s i)
+-- n of them, one after another
+unfoldable pub u64sAt : ℕ → List ℕ → ℕ → List ℕ
+u64sAt n s i = tab n (λ k. u64At s (i + 8 * k))
 
--- n numbers, of eight bytes each, from a place on
-unfoldable pub f64sAt : ℕ → List ℕ → ℕ → List Float
-f64sAt n s i = tab n (λ k. f64At s (i + 8 * k))
+-- a run with others in the places from p on; its other places stay
+unfoldable pub placed : List ℕ → ℕ → List ℕ → List ℕ
+placed run p others = take p run ++ others ++ drop (p + length others) run
 
 -- a digit in text: 0 to 9, then A to F
 abbrev pub digit : ℕ → ℕ

@@ -3,12 +3,12 @@ use Prim.Native.Nat.{ℕ, _+_}
 use mathlib.Core.Path.{_≡_}
 use mathlib.Core.Bool.{Bool, true, false, cond}
 use mathlib.Core.List.{List, [], _∷_, _++_, map}
-use mathlib.Core.Option.{Option, none, some}
 use lib.ListN.{replicate}
 use lib.Ieee.{binary64, ofBits}
 use Rattle.drifters_eqf.specs.declared.filter.Answer.the-variants.{Nis, Fine, Refused}
 use Rattle.drifters_eqf.specs.declared.kind.Kind.the-variants.{Position, State}
-use Rattle.call_sheet.specs.Sheet.{Sheet, headerFits, readSheet, lineText, sheetText}
+use Rattle.call_sheet.specs.Sheet.{headerFits, readSheet, isSome}
+use Rattle.call_sheet.specs.Text.{lineText, sheetText}
 
 -- the text that a definition gives, and the text stated
 pub record Reading : Type 0 where
@@ -34,11 +34,6 @@ filterAlone n = u32 1 0 ++ u32 0 0 ++ u32 12 0 ++ replicate n 0
 -- the same with a call of a kind, its body of n bytes of zeros at an offset of two bytes after the filter's at 20
 abbrev pub oneCall : ℕ → ℕ → ℕ → ℕ → List ℕ
 oneCall kind low high n = u32 2 0 ++ u32 0 0 ++ u32 20 0 ++ u32 kind 0 ++ u32 low high ++ replicate (3824 + n) 0
-
--- whether a file is a sheet
-abbrev pub isSheet : Option Sheet → Bool
-isSheet none = false
-isSheet (some s) = true
 
 -- `refused 6`
 abbrev pub refusedSix : List ℕ
@@ -67,11 +62,11 @@ readings =
     ∷ reads (sheetText (filterAlone 3825)) refusedSix
     ∷ reads (sheetText (filterAlone 3823)) refusedSix
     -- a filter and a position call of 96 bytes at 3844; at 3843 or 3845, or of kind 0 or 7, it is no sheet
-    ∷ reads (truth (isSheet (readSheet (oneCall 2 4 15 96)))) (truth true)
-    ∷ reads (truth (isSheet (readSheet (oneCall 2 3 15 96)))) (truth false)
-    ∷ reads (truth (isSheet (readSheet (oneCall 2 5 15 96)))) (truth false)
-    ∷ reads (truth (isSheet (readSheet (oneCall 0 4 15 3824)))) (truth false)
-    ∷ reads (truth (isSheet (readSheet (oneCall 7 4 15 0)))) (truth false)
+    ∷ reads (truth (isSome (readSheet (oneCall 2 4 15 96)))) (truth true)
+    ∷ reads (truth (isSome (readSheet (oneCall 2 3 15 96)))) (truth false)
+    ∷ reads (truth (isSome (readSheet (oneCall 2 5 15 96)))) (truth false)
+    ∷ reads (truth (isSome (readSheet (oneCall 0 4 15 3824)))) (truth false)
+    ∷ reads (truth (isSome (readSheet (oneCall 7 4 15 0)))) (truth false)
     ∷ []
 
 -- every row of the table is as stated

@@ -1,21 +1,19 @@
--- The call sheet of document 01: its layout, and the text that is printed for it. Definitions and statements only.
-use Prim.Native.Nat.{ℕ, zero, suc, _+_, _-_, _*_}
+-- The call sheet of document 01: its layout, and the runs that it is read into. Definitions and statements only.
+use Prim.Native.Nat.{ℕ, zero, suc, _+_, _-_, _*_, _≤_}
 use mathlib.Core.Path.{_≡_}
-use mathlib.Core.Bool.{Bool, _&&_, cond}
-use mathlib.Core.List.{List, [], _∷_, _++_}
+use mathlib.Core.Bool.{Bool, true, false, _&&_, cond}
+use mathlib.Core.List.{List, [], _∷_, _++_, map}
 use mathlib.Core.Option.{Option, none, some}
 use lib.Dec.{eqb, leb}
-use lib.ListN.{length}
-use lib.Ieee.{Float, binary64, toBits}
-use Rattle.drifters_eqf.specs.Answer.{sheetRefusal}
+use lib.ListN.{length, take, drop}
+use Rattle.drifters_eqf.specs.Answer.{lengthRefusal, sheetRefusal}
 use Rattle.drifters_eqf.specs.Run.{filterLength}
 use Rattle.drifters_eqf.specs.Entry.{kindNumber, callLength}
-use Rattle.drifters_eqf.specs.Log.{Call, outcome}
-use Rattle.drifters_eqf.specs.declared.filter.Answer.{Answer}
-use Rattle.drifters_eqf.specs.declared.filter.Answer.the-variants.{Nis, Fine, Refused}
 use Rattle.drifters_eqf.specs.declared.kind.Kind.{Kind}
 use Rattle.drifters_eqf.specs.declared.kind.Kind.the-variants.{Propagate, Position, Velocity, Direction, General, State}
-use Rattle.call_sheet.specs.Bytes.{u32At, f64sAt, digits, decimal}
+use Rattle.call_sheet.specs.declared.sheet.Filled.{Filled}
+use Rattle.call_sheet.specs.declared.sheet.Filled.the-variants.{Length, Refused}
+use Rattle.call_sheet.specs.Bytes.{u32At, u64sAt, placed}
 
 -- ---- layout
 
@@ -43,10 +41,23 @@ offsetAt s i = u32At s (8 + 8 * i)
 abbrev pub tableBytes : ℕ → ℕ
 tableBytes n = 4 + 8 * n
 
--- a filter and the calls on it
+-- where the filter of a sheet of n entries ends
+abbrev pub filterEnd : ℕ → ℕ
+filterEnd n = tableBytes n + 8 * filterLength
+
+-- a call of a sheet: its kind, and its numbers by their bits
+pub record SheetCall : Type 0 where
+  pub kind : Kind
+  pub bits : List ℕ
+
+-- a call of its parts
+abbrev pub sheetCall : Kind → List ℕ → SheetCall
+sheetCall kind bits = record { kind = kind; bits = bits }
+
+-- a filter, its numbers by their bits, and the calls on it
 pub record Sheet : Type 0 where
-  pub filter : List Float
-  pub calls : List Call
+  pub filter : List ℕ
+  pub calls : List SheetCall
 
 -- every kind of call
 abbrev pub allKinds : List Kind
@@ -62,17 +73,17 @@ abbrev pub KindsFound : Type 0
 KindsFound = (kind : Kind) → findKind (kindNumber kind) allKinds ≡ some kind
 
 -- a call before others
-abbrev pub before : Call → Option (List Call) → Option (List Call)
+abbrev pub before : SheetCall → Option (List SheetCall) → Option (List SheetCall)
 before c none = none
 before c (some cs) = some (c ∷ cs)
 
 -- the call of a kind whose body is at a place, before those that follow it; none where there is no kind
-abbrev pub callBefore : Option Kind → List ℕ → ℕ → (ℕ → Option (List Call)) → Option (List Call)
+abbrev pub callBefore : Option Kind → List ℕ → ℕ → (ℕ → Option (List SheetCall)) → Option (List SheetCall)
 callBefore none s place rest = none
-callBefore (some kind) s place rest = before (record { kind = kind; numbers = f64sAt (callLength kind) s place }) (rest (place + 8 * callLength kind))
+callBefore (some kind) s place rest = before (sheetCall kind (u64sAt (callLength kind) s place)) (rest (place + 8 * callLength kind))
 
 -- k entries from entry i on, the first body at a place: each begins where the one before it ends, and the file ends with the last
-unfoldable pub callsAt : ℕ → ℕ → List ℕ → ℕ → Option (List Call)
+unfoldable pub callsAt : ℕ → ℕ → List ℕ → ℕ → Option (List SheetCall)
 callsAt zero i s place = cond (eqb place (length s)) (some []) none
 callsAt (suc k) i s place = cond (eqb (offsetAt s i) place) (callBefore (findKind (kindAt s i) allKinds) s place (callsAt k (i + 1) s)) none
 
@@ -83,62 +94,100 @@ headerFits s =
     && eqb (kindAt s 0) 0 && eqb (offsetAt s 0) (tableBytes (countOf s))
 
 -- the filter of a sheet with its calls
-abbrev pub sheetWith : List Float → Option (List Call) → Option Sheet
+abbrev pub sheetWith : List ℕ → Option (List SheetCall) → Option Sheet
 sheetWith filter none = none
 sheetWith filter (some calls) = some (record { filter = filter; calls = calls })
 
 -- the sheet that a file's bytes are; none where they break the layout
 unfoldable pub readSheet : List ℕ → Option Sheet
 readSheet s =
-    let place = tableBytes (countOf s) in
-    cond (headerFits s) (sheetWith (f64sAt filterLength s place) (callsAt (countOf s - 1) 1 s (place + 8 * filterLength))) none
+    let n = countOf s in
+    cond (headerFits s) (sheetWith (u64sAt filterLength s (tableBytes n)) (callsAt (n - 1) 1 s (filterEnd n))) none
 
--- ---- answers
+-- whether there is one
+abbrev pub isSome : {A : Type 0} → Option A → Bool
+isSome none = false
+isSome (some a) = true
 
--- the answers of calls, each on the filter that the one before it left
-unfoldable pub answersFrom : List Float → List Call → List Answer
-answersFrom run [] = []
-answersFrom run (c ∷ cs) = outcome run c .answer ∷ answersFrom (outcome run c .run) cs
+-- ---- a sheet in lent runs
 
--- ---- text, in ASCII
+-- the most calls of a sheet
+abbrev pub mostCalls : ℕ
+mostCalls = 255
 
--- ` `
-abbrev pub space : List ℕ
-space = 32 ∷ []
+-- the most numbers of its calls: each is eight bytes
+abbrev pub mostNumbers : ℕ
+mostNumbers = 8192
 
--- the end of a line
-abbrev pub newline : List ℕ
-newline = 10 ∷ []
+-- the number of the refusal, and 0 where a run was filled
+abbrev pub refusalOf : Filled → ℕ
+refusalOf (Length n) = 0
+refusalOf (Refused n) = n
 
--- `ok`
-abbrev pub okText : List ℕ
-okText = 111 ∷ 107 ∷ []
+-- the numbers of the kinds of calls
+unfoldable pub kindsOf : List SheetCall → List ℕ
+kindsOf calls = map (λ c. kindNumber (c .kind)) calls
 
--- `refused ` and a number
-abbrev pub refusedText : ℕ → List ℕ
-refusedText n = 114 ∷ 101 ∷ 102 ∷ 117 ∷ 115 ∷ 101 ∷ 100 ∷ 32 ∷ decimal n
+-- the bits of the numbers of calls, one after another
+unfoldable pub bitsOf : List SheetCall → List ℕ
+bitsOf [] = []
+bitsOf (c ∷ cs) = c .bits ++ bitsOf cs
 
--- an answer: the 16 hexadecimal digits of the normalised innovation squared, `ok`, or the refusal
-abbrev pub answerText : Answer → List ℕ
-answerText (Nis x) = digits 16 16 (toBits binary64 x)
-answerText Fine = okText
-answerText (Refused n) = refusedText n
+-- how many calls, or the number of the refusal; the filter's bits, the kinds, and the bits of all calls, as they are after reading
+pub record Runs : Type 0 where
+  pub answer : Filled
+  pub filter : List ℕ
+  pub kinds : List ℕ
+  pub numbers : List ℕ
 
--- the line of entry i: index, kind, answer
-unfoldable pub lineText : ℕ → Kind → Answer → List ℕ
-lineText i kind a = decimal i ++ space ++ decimal (kindNumber kind) ++ space ++ answerText a ++ newline
+-- runs of their parts
+abbrev pub runs : Filled → List ℕ → List ℕ → List ℕ → Runs
+runs answer filter kinds numbers = record { answer = answer; filter = filter; kinds = kinds; numbers = numbers }
 
--- the lines of calls with their answers, from entry i on
-unfoldable pub linesText : ℕ → List Call → List Answer → List ℕ
-linesText i [] answers = []
-linesText i (c ∷ cs) [] = []
-linesText i (c ∷ cs) (a ∷ answers) = lineText i (c .kind) a ++ linesText (i + 1) cs answers
+-- the runs hold every sheet
+abbrev pub runsFit : List ℕ → List ℕ → List ℕ → Bool
+runsFit filter kinds numbers = eqb (length filter) filterLength && leb mostCalls (length kinds) && leb mostNumbers (length numbers)
 
--- the text of a sheet; of a broken one only that it is refused
-abbrev pub textOf : Option Sheet → List ℕ
-textOf none = refusedText sheetRefusal ++ newline
-textOf (some sheet) = linesText 1 (sheet .calls) (answersFrom (sheet .filter) (sheet .calls))
+-- a sheet at the front of the runs; where there is none they stay
+abbrev pub inRuns : Option Sheet → List ℕ → List ℕ → List ℕ → Runs
+inRuns none filter kinds numbers = runs (Refused sheetRefusal) filter kinds numbers
+inRuns (some sheet) filter kinds numbers =
+    runs (Length (length (sheet .calls))) (sheet .filter) (placed kinds 0 (kindsOf (sheet .calls))) (placed numbers 0 (bitsOf (sheet .calls)))
 
--- the text that is printed for a file's bytes
-unfoldable pub sheetText : List ℕ → List ℕ
-sheetText s = textOf (readSheet s)
+-- a file's bytes read into lent runs
+unfoldable pub readInto : List ℕ → List ℕ → List ℕ → List ℕ → Runs
+readInto s filter kinds numbers = cond (runsFit filter kinds numbers) (inRuns (readSheet s) filter kinds numbers) (runs (Refused lengthRefusal) filter kinds numbers)
+
+-- ---- the way back
+
+-- a kind that was found; a state where there is none
+abbrev pub foundKind : Option Kind → Kind
+foundKind none = State
+foundKind (some kind) = kind
+
+-- the kind of a number
+unfoldable pub kindOf : ℕ → Kind
+kindOf n = foundKind (findKind n allKinds)
+
+-- the calls of kinds, with the bits of their numbers one after another
+unfoldable pub callsIn : List ℕ → List ℕ → List SheetCall
+callsIn [] bits = []
+callsIn (k ∷ ks) bits =
+    let n = callLength (kindOf k) in
+    sheetCall (kindOf k) (take n bits) ∷ callsIn ks (drop n bits)
+
+-- how many numbers the calls of kinds have
+unfoldable pub bitsIn : List ℕ → ℕ
+bitsIn [] = 0
+bitsIn (k ∷ ks) = callLength (kindOf k) + bitsIn ks
+
+-- a sheet has its place in the runs, and the runs give its calls back, whatever follows in them
+pub record Held (sheet : Sheet) : Type 0 where
+  pub filter : length (sheet .filter) ≡ filterLength
+  pub calls : length (sheet .calls) ≤ mostCalls
+  pub numbers : length (bitsOf (sheet .calls)) ≤ mostNumbers
+  pub back : (others : List ℕ) → callsIn (kindsOf (sheet .calls)) (bitsOf (sheet .calls) ++ others) ≡ sheet .calls
+
+-- so it is for every sheet that is read
+abbrev pub SheetsHeld : Type 0
+SheetsHeld = (s : List ℕ) (sheet : Sheet) → readSheet s ≡ some sheet → Held sheet

@@ -1,2 +1,5 @@
-// Call sheets: a filter and calls as bytes, and the text of their answers. Of the code the text of an answer; the rest are definitions, in specs/.
+// Call sheets: a filter and calls as bytes, read, run, and printed.
+mod bytes;
+pub mod run;
+pub mod sheet;
 pub mod text;

@@ -1,12 +1,15 @@
-// The text of an answer: `ok`, the digits of a normalised innovation squared, or the number of a refusal.
+// Text: of an answer, `ok`, the digits of a normalised innovation squared, or the number of a refusal; and the line of a call.
 ghost use mathlib.Core.Path.{_≡_};
-ghost use Prim.Native.Nat.{_-_, _≤_, _<_};
+ghost use Prim.Native.Nat.{_+_, _-_, _≤_, _<_};
 ghost use mathlib.Core.List.{_++_};
 ghost use lib.ListN.{length, replicate};
 ghost use lib.Ieee.{binary64, toBits};
-ghost use Rattle.call_sheet.specs.Bytes.{digit, digits, decimal};
-ghost use Rattle.call_sheet.specs.Sheet.{refusedText, answerText};
+ghost use Rattle.drifters_eqf.specs.Entry.{kindNumber};
+ghost use Rattle.call_sheet.specs.Bytes.{placed, digit, digits, decimal};
+ghost use Rattle.call_sheet.specs.Text.{refusedText, answerText, lineText};
+use crate::sheet::kind_number;
 use drifters_eqf::filter::Answer;
+use drifters_eqf::kind::Kind;
 
 // Text of at most 16 bytes: the first `length` of them; the others are 0.
 pub struct Text {
@@ -31,6 +34,58 @@ pub fn answer_text(answer: Answer) -> Text
         }
         Answer::Refused(n) => refused_text(n as u64),
     }
+}
+
+// The line of entry i, from place `at` of `out` on: index, kind, answer. Answers where it ends.
+pub(crate) fn put_line(out: &mut [u8], at: usize, i: usize, kind: Kind, answer: Answer) -> usize
+    requires { ⌜ at + 23 ≤ length (now out) ⌝ }
+    ensures { λ r. ⌜ (r ≡ at + length (lineText i kind answer)) × ((now (out .exit) ≡ placed (now (out .entry)) at (lineText i kind answer)) × (r ≤ at + 23)) ⌝ }
+{
+    let a = put_decimal(out, at, i as u64);
+    let b = put(out, a, b" ");
+    let c = put_kind(out, b, kind);
+    let d = put(out, c, b" ");
+    let e = put_answer(out, d, answer);
+    put(out, e, b"\n")
+}
+
+// The number of a kind in decimal, from place `at` of `out` on. Answers where it ends: it is one digit.
+fn put_kind(out: &mut [u8], at: usize, kind: Kind) -> usize
+    requires { ⌜ at + 3 ≤ length (now out) ⌝ }
+    ensures { λ r. ⌜ (r ≡ at + length (decimal (kindNumber kind))) × ((now (out .exit) ≡ placed (now (out .entry)) at (decimal (kindNumber kind))) × (r ≤ at + 1)) ⌝ }
+{
+    put_decimal(out, at, kind_number(kind))
+}
+
+// The text of an answer, from place `at` of `out` on. Answers where it ends.
+pub(crate) fn put_answer(out: &mut [u8], at: usize, answer: Answer) -> usize
+    requires { ⌜ at + 16 ≤ length (now out) ⌝ }
+    ensures { λ r. ⌜ (r ≡ at + length (answerText answer)) × ((now (out .exit) ≡ placed (now (out .entry)) at (answerText answer)) × (r ≤ at + 16)) ⌝ }
+{
+    let text = answer_text(answer);
+    let bytes = text.bytes;
+    put(out, at, &bytes[..text.length])
+}
+
+// A number in decimal, from place `at` of `out` on. Answers where it ends.
+fn put_decimal(out: &mut [u8], at: usize, n: u64) -> usize
+    requires { ⌜ at + 3 ≤ length (now out) ⌝ }
+    ensures { λ r. ⌜ (r ≡ at + length (decimal n)) × ((now (out .exit) ≡ placed (now (out .entry)) at (decimal n)) × (r ≤ at + 3)) ⌝ }
+{
+    let end = at + decimal_length(n);
+    put_digits(&mut out[at..end], n, 10);
+    end
+}
+
+// Bytes, from place `at` of `out` on. Answers where they end.
+pub(crate) fn put(out: &mut [u8], at: usize, bytes: &[u8]) -> usize
+    requires { ⌜ at + length (now bytes) ≤ length (now out) ⌝ }
+    ensures { λ r. ⌜ (r ≡ at + length (now (bytes .entry))) × (now (out .exit) ≡ placed (now (out .entry)) at (now (bytes .entry))) ⌝ }
+{
+    for i in 0..bytes.len() {
+        out[at + i] = bytes[i];
+    }
+    at + bytes.len()
 }
 
 // The text of a refusal.

@@ -12,7 +12,7 @@ use Rattle.drifters_core.specs.declared.math.vec3.Vec3.{Vec3}
 use Rattle.drifters_core.specs.declared.math.shapes.Mat3.{Mat3}
 
 -- f 0, f 1, .., f (n - 1)
-unfoldable pub tab : ℕ → (ℕ → Float) → List Float
+unfoldable pub tab : {A : Type 0} → ℕ → (ℕ → A) → List A
 tab zero f = []
 tab (suc n) f = tab n f ++ (f n ∷ [])
 

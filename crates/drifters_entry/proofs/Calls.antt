@@ -1,8 +1,8 @@
 -- The laws of a call by its tests: the lengths, the finiteness of what comes in, and that of what is given out. Assumes nothing.
 use Prim.Native.Nat.{ℕ}
 use mathlib.Core.Path.{_≡_, refl, sym, ap, _∙_}
-use mathlib.Core.Bool.{Bool, true, false, not, cond, _&&_, and-true, and-false, false≢true, Bool·not-not}
-use mathlib.Core.List.{List, []}
+use mathlib.Core.Bool.{Bool, true, false, not, cond, _&&_, and-true, and-false, and-assoc, false≢true, Bool·not-not}
+use mathlib.Core.List.{List, [], _∷_}
 use mathlib.Core.Logic.{_⊎_, ⊎-elim}
 use native.Mathlib.Omega.{arith}
 use lib.Dec.{eqb}
@@ -18,6 +18,7 @@ use Rattle.drifters_eqf.specs.declared.filter.Answer.{Answer}
 use Rattle.drifters_eqf.specs.declared.filter.Answer.the-variants.{Nis, Fine, Refused}
 use Rattle.drifters_eqf.specs.declared.filter.Answered.{Answered}
 use Rattle.drifters_eqf.specs.declared.kind.Kind.{Kind}
+use Rattle.drifters_eqf.specs.declared.kind.Kind.the-variants.{State}
 use Rattle.drifters_entry.proofs.Parts.{allFinite-one}
 
 -- one of two lengths is not as stated: P and Q are the two ways to it, the second test made where the first holds
@@ -72,6 +73,32 @@ module _ (kind : Kind) (run v : List Float) where
         o ≡ call kind run v []
     unfolding call
     call-passed p e = rw (two-lengths, eq-eqb _ _ (p .run-length), eq-eqb _ _ (p .v-length), p .finite) e
+
+-- ---- a call of any kind
+
+no-numbers : (v : List Float) → length v ≡ 0 → v ≡ []
+no-numbers [] e = refl
+no-numbers (x ∷ v) e = absurd (omega (arith, e))
+
+-- the numbers or the run that is written are not of their lengths
+pub call-lengths : (kind : Kind) (run v written : List Float) → eqb (length v) (callLength kind) && eqb (length written) (writtenLength kind) ≡ false →
+    refused lengthRefusal run written ≡ call kind run v written
+unfolding call
+call-lengths kind run v written e = rw (rw e at (and-assoc (eqb (length run) filterLength) (eqb (length v) (callLength kind)) (eqb (length written) (writtenLength kind))), and-false)
+
+-- the entry of a kind K that writes nothing beside the filter
+pub call-of : (K : Kind) (run v : List Float) {kind : Kind} {written left : List Float} {a : Answer} → writtenLength K ≡ 0 → kind ≡ K → length written ≡ writtenLength kind →
+    outcome a left [] ≡ call K run v [] → outcome a left written ≡ call kind run v written
+call-of K run v {kind} {written} {left} {a} nothing e l given =
+    let empty : written ≡ [] = no-numbers written (l ∙ ap writtenLength e ∙ nothing) in
+    rw (empty, e) given
+
+-- the entry of a state call
+pub call-state : (run v written : List Float) {kind : Kind} {left : List Float} {a : Answer} → kind ≡ State → length v ≡ callLength kind →
+    outcome a run left ≡ call State run [] written → outcome a run left ≡ call kind run v written
+call-state run v written {kind} e l given =
+    let empty : v ≡ [] = no-numbers v (l ∙ ap callLength e) in
+    rw (empty, e) given
 
 -- ---- what is given out
 

@@ -4,10 +4,8 @@ ghost use mathlib.Core.List.{[]};
 ghost use Prim.Native.Nat.{_+_, _≤_};
 ghost use lib.ListN.{length};
 ghost use Rattle.drifters_eqf.specs.Run.{filterLength, part};
-ghost use Rattle.drifters_eqf.specs.Entry.{callLength, processNoiseAt, outcome, outcomeOf, settled, firstRefusal, call, start};
+ghost use Rattle.drifters_eqf.specs.Entry.{callLength, writtenLength, processNoiseAt, outcome, outcomeOf, settled, firstRefusal, call, start};
 ghost use Rattle.drifters_eqf.specs.declared.kind.Kind.the-variants.{Propagate, Position, Velocity, Direction, General, State};
-use crate::run::FILTER_LENGTH;
-use crate::run::STATE_LENGTH;
 use crate::run::copy_part;
 use crate::run::filter_is_finite;
 use crate::run::from_run;
@@ -33,6 +31,12 @@ use drifters_real::math::real::is_finite;
 use drifters_symmetry::group::act_state;
 use drifters_symmetry::lift::Input;
 
+// How many numbers a filter has.
+pub const FILTER_LENGTH: usize = 478;
+
+// How many numbers a state has.
+pub const STATE_LENGTH: usize = 33;
+
 // How many numbers a start takes: a state, a covariance, gravity.
 const START_LENGTH: usize = 477;
 
@@ -47,6 +51,37 @@ pub fn call_length(kind: Kind) -> usize
         Kind::Direction => 15,
         Kind::General => 75,
         Kind::State => 0,
+    }
+}
+
+// How many numbers a call of a kind writes beside the filter.
+pub fn written_length(kind: Kind) -> usize
+    ensures { λ r. ⌜ r ≡ writtenLength kind ⌝ }
+{
+    match kind {
+        Kind::Propagate => 0,
+        Kind::Position => 0,
+        Kind::Velocity => 0,
+        Kind::Direction => 0,
+        Kind::General => 0,
+        Kind::State => STATE_LENGTH,
+    }
+}
+
+// A call of any kind; `written` is the run that a state call writes, and empty for the others.
+pub fn call(kind: Kind, run: &mut [f64], numbers: &[f64], written: &mut [f64]) -> Answer
+    ensures { λ r. ⌜ outcome r (now (run .exit)) (now (written .exit)) ≡ call kind (now (run .entry)) (now (numbers .entry)) (now (written .entry)) ⌝ }
+{
+    if numbers.len() != call_length(kind) || written.len() != written_length(kind) {
+        return Answer::Refused(LENGTH_REFUSAL);
+    }
+    match kind {
+        Kind::Propagate => propagate(run, numbers),
+        Kind::Position => update_position(run, numbers),
+        Kind::Velocity => update_velocity(run, numbers),
+        Kind::Direction => update_direction(run, numbers),
+        Kind::General => update(run, numbers),
+        Kind::State => nav_state(run, written),
     }
 }
 

@@ -8,6 +8,8 @@ ghost use Rattle.drifters_core.specs.Matrix.{allFinite};
 ghost use Rattle.drifters_symmetry.specs.Lie.{toArraySe3, vec3At};
 ghost use Rattle.drifters_eqf.specs.Filter.{filterOf};
 ghost use Rattle.drifters_eqf.specs.Run.{filterLength, stateLength, part, mat3At, poseNumbers, fromRun, toRun, stateFromRun, stateToRun};
+use crate::entry::FILTER_LENGTH;
+use crate::entry::STATE_LENGTH;
 use drifters_core::math::matrix::all_finite;
 use drifters_core::math::shapes::Mat3;
 use drifters_core::math::shapes::Mat21;
@@ -18,11 +20,6 @@ use drifters_symmetry::group::State;
 use drifters_symmetry::group::Symmetry;
 use drifters_symmetry::lie::Se3Tangent;
 use drifters_symmetry::lie::Se23;
-
-// How many numbers a filter and a state have.
-pub(crate) const FILTER_LENGTH: usize = 478;
-
-pub(crate) const STATE_LENGTH: usize = 33;
 
 // Where the parts of a filter's run begin. A state has its biases, lever arm and calibration at the places of gamma, delta and E.
 const VELOCITY: usize = 9;

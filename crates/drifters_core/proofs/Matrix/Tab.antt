@@ -12,12 +12,12 @@ use lib.Seq.{getD-set-same, getD-set-other, getD-at, set-at, drop-cons, append-s
 use lib.Ieee.{Float, nan}
 use Rattle.drifters_core.specs.Matrix.{tab}
 
-pub length-tab : (n : ℕ) (f : ℕ → Float) → length (tab n f) ≡ n
+pub length-tab : {A : Type 0} (n : ℕ) (f : ℕ → A) → length (tab n f) ≡ n
 unfolding tab
 length-tab zero f = refl
 length-tab (suc n) f = length-append (tab n f) (f n ∷ []) ∙ add-one (length (tab n f)) ∙ ap suc (length-tab n f)
 
-pub getD-tab : (n : ℕ) (f : ℕ → Float) (k : ℕ) (d : Float) → k < n → getD (tab n f) k d ≡ f k
+pub getD-tab : {A : Type 0} (n : ℕ) (f : ℕ → A) (k : ℕ) (d : A) → k < n → getD (tab n f) k d ≡ f k
 unfolding tab
 getD-tab zero f k d h = absurd (not-suc-le-zero h)
 getD-tab (suc n) f k d h =
@@ -43,14 +43,14 @@ pub tab-replicate : (n : ℕ) (v : Float) → replicate n v ≡ tab n (λ k. v)
 tab-replicate n v = tab-is (replicate n v) n (λ k. v) (length-replicate n v) (λ k p. getD-replicate n k v nan p)
 
 -- the list o with its first p elements replaced by those of f
-abbrev pub front : ℕ → (ℕ → Float) → List Float → List Float
+abbrev pub front : {A : Type 0} → ℕ → (ℕ → A) → List A → List A
 front p f o = tab p f ++ drop p o
 
-pub front-zero : (f : ℕ → Float) (o : List Float) → front 0 f o ≡ o
+pub front-zero : {A : Type 0} (f : ℕ → A) (o : List A) → front 0 f o ≡ o
 unfolding tab
 front-zero f o = refl
 
-pub front-all : (f : ℕ → Float) (o : List Float) → front (length o) f o ≡ tab (length o) f
+pub front-all : {A : Type 0} (f : ℕ → A) (o : List A) → front (length o) f o ≡ tab (length o) f
 front-all f o = rw drop-length (append-nil (tab (length o) f))
 
 -- the element after the first p is still the old one
@@ -60,19 +60,19 @@ front-get p f o =
     (getD-append-add (tab p f) (drop p o) 0 nan ∙ getD-drop p o 0 nan ∙ ap (λ (m : ℕ). getD o m nan) (add-zero p))
 
 -- one more element is stored
-pub front-set : (p : ℕ) (f : ℕ → Float) (o : List Float) (v : Float) → p < length o → v ≡ f p → set (front p f o) p v ≡ front (p + 1) f o
+pub front-set : {A : Type 0} (p : ℕ) (f : ℕ → A) (o : List A) (v : A) → p < length o → v ≡ f p → set (front p f o) p v ≡ front (p + 1) f o
 unfolding tab
 front-set p f o v h e =
-    rw (add-one, drop-cons o p nan h, e)
-    (set-at (tab p f) (getD o p nan) (drop (suc p) o) (f p) p (length-tab p f) ∙ sym (append-snoc (tab p f) (f p) (drop (suc p) o)))
+    rw (add-one, drop-cons o p v h, e)
+    (set-at (tab p f) (getD o p (f p)) (drop (suc p) o) (f p) p (length-tab p f) ∙ sym (append-snoc (tab p f) (f p) (drop (suc p) o)))
 
-pub tab-add : (p n : ℕ) (f : ℕ → Float) → tab (p + n) f ≡ tab p f ++ tab n (λ j. f (p + j))
+pub tab-add : {A : Type 0} (p n : ℕ) (f : ℕ → A) → tab (p + n) f ≡ tab p f ++ tab n (λ j. f (p + j))
 unfolding tab
 tab-add p zero f = rw (add-zero, append-nil)
 tab-add p (suc n) f = rw (add-suc, tab-add p n f) (append-assoc (tab p f) (tab n (λ j. f (p + j))) (f (p + n) ∷ []))
 
 -- a part of n elements after the first p, lent and come back with the next values of f
-pub front-part : (p n : ℕ) (f : ℕ → Float) (o : List Float) →
+pub front-part : {A : Type 0} (p n : ℕ) (f : ℕ → A) (o : List A) →
     take p (front p f o) ++ (tab n (λ j. f (p + j)) ++ drop n (drop p (front p f o))) ≡ front (p + n) f o
 front-part p n f o =
     rw (take-at (tab p f) (drop p o) p (length-tab p f), drop-at (tab p f) (drop p o) p (length-tab p f), drop-drop n p o, tab-add p n f)
@@ -82,10 +82,10 @@ front-part p n f o =
 pub step-get : (p : ℕ) (f : ℕ → Float) (o : List Float) {l : List Float} → l ≡ front p f o → getD l p nan ≡ getD o p nan
 step-get p f o e = ap (λ (m : List Float). getD m p nan) e ∙ front-get p f o
 
-pub step-set : (p : ℕ) (f : ℕ → Float) (o : List Float) {l : List Float} {v : Float} → l ≡ front p f o → p < length o → v ≡ f p → set l p v ≡ front (p + 1) f o
-step-set p f o {l} {v} e h q = ap (λ (m : List Float). set m p v) e ∙ front-set p f o v h q
+pub step-set : {A : Type 0} (p : ℕ) (f : ℕ → A) (o : List A) {l : List A} {v : A} → l ≡ front p f o → p < length o → v ≡ f p → set l p v ≡ front (p + 1) f o
+step-set {A} p f o {l} {v} e h q = ap (λ (m : List A). set m p v) e ∙ front-set p f o v h q
 
-pub step-done : (p : ℕ) (f : ℕ → Float) (o : List Float) {l : List Float} → l ≡ front p f o → p ≡ length o → l ≡ tab (length o) f
+pub step-done : {A : Type 0} (p : ℕ) (f : ℕ → A) (o : List A) {l : List A} → l ≡ front p f o → p ≡ length o → l ≡ tab (length o) f
 step-done p f o e h = e ∙ ap (λ (m : ℕ). front m f o) h ∙ front-all f o
 
 -- the first p elements of l are those of f: what a loop that writes l from the front keeps, where what l held before does not matter

@@ -189,17 +189,15 @@ pub(crate) fn block_into(
     }
 }
 
-// Every entry is finite.
+// Every entry is finite. The loop has no exit of its own, so that several entries are tested at once.
 pub fn all_finite(m: &[f64]) -> bool
     ensures { λ r. ⌜ r ≡ allFinite (now (m .entry)) ⌝ }
 {
-    let n = m.len();
-    for k in 0..n {
-        if !is_finite(m[k]) {
-            return false;
-        }
+    let mut finite = true;
+    for k in 0..m.len() {
+        finite = finite & is_finite(m[k]);
     }
-    true
+    finite
 }
 
 // The larger of `acc` and the size of x; `acc` where x is not a number.

@@ -6,7 +6,7 @@ use native.Mathlib.Omega.{arith}
 use borrow.Author.Needs.{needs}
 use lib.ListN.{length, replicate}
 use Rattle.call_sheet.specs.Bytes.{digits}
-use Rattle.call_sheet.specs.Sheet.{answerText}
+use Rattle.call_sheet.specs.Text.{answerText}
 use Rattle.call_sheet.proofs.text.answer_text.Statement.{statement}
 use Rattle.call_sheet.proofs.text.answer_text.Tie as tie
 

@@ -1,0 +1,77 @@
+-- `run::run_call` meets its contract.
+use mathlib.Core.Path.{_≡_, refl, sym, ap, _∙_}
+use Prim.Native.Nat.{ℕ, _≤_}
+use native.Mathlib.Omega.{arith}
+use borrow.Author.Needs.{needs}
+use lib.ListN.{length, take, drop, length-append}
+use lib.Seq.{length-take-le, take-at}
+use Rattle.drifters_core.specs.Matrix.{zeros}
+use Rattle.drifters_eqf.specs.Entry.{writtenLength, Outcome, call}
+use Rattle.drifters_eqf.specs.declared.kind.Kind.{Kind}
+use Rattle.drifters_eqf.specs.declared.kind.Kind.the-variants.{Propagate, Position, Velocity, Direction, General, State}
+use Rattle.call_sheet.proofs.Lines.{written-short}
+use Rattle.call_sheet.proofs.SheetLayout.{call-most}
+use Rattle.call_sheet.proofs.run.run_call.Statement.{statement}
+use Rattle.call_sheet.proofs.run.run_call.Tie as tie
+
+-- what a call writes beside the filter is lent as zeros
+zeros-lent : (kind : Kind) → take (writtenLength kind) (zeros 33) ≡ zeros (writtenLength kind)
+zeros-lent Propagate = refl
+zeros-lent Position = refl
+zeros-lent Velocity = refl
+zeros-lent Direction = refl
+zeros-lent General = refl
+zeros-lent State = refl
+
+-- the bits of a call are at most 75
+few : (c : tie.Start) → length (c .args .bits .now) ≤ 75
+few c = omega (arith, c .pre, call-most (c .args .kind))
+
+-- as many places are lent for its numbers, and come back
+lent : (n : ℕ) → n ≤ 75 → length (take n (zeros 75)) ≡ n
+lent n h = length-take-le n (zeros 75) h
+
+filled : (c : tie.After-numbers-of) → length (c .numbers-of .last .1 .0) ≡ length (c .before .before .before .before .args .bits .now)
+filled c = c .numbers-of .kept .1 .0 ∙ lent _ (few (c .before .before .before .before))
+
+-- the places that a call may write are at most 33
+written : (c : tie.After-written-length) → c .written-length .result ≤ 33
+written c = omega (arith, c .written-length .ensures, written-short (c .before .before .before .before .before .before .args .kind))
+
+array-share-prefix-numbers : tie.Need-array-share-prefix-numbers
+array-share-prefix-numbers c =
+    let f = c .before .before .before in
+    let n = length (f .before .before .before .before .args .bits .now) in
+    omega (arith, length-append (f .numbers-of .last .1 .0) (drop n (zeros 75)), filled f)
+
+slice-aggregate-call : tie.Need-slice-aggregate-call
+slice-aggregate-call c =
+    let f = c .before .before .before .before in
+    sym (ap length (take-at (f .numbers-of .last .1 .0) _ _ (filled f)) ∙ filled f)
+
+returns : tie.Need-returns
+returns c =
+    let made = c .before .before .before in
+    let w = made .before .before .before .before in
+    let f = w .before .before in
+    let a = f .before .before .before .before .args in
+    let numbers = take-at (f .numbers-of .last .1 .0) _ _ (filled f) ∙ f .numbers-of .ensures in
+    let zeroed = ap (λ (m : ℕ). take m (zeros 33)) (w .written-length .ensures) ∙ zeros-lent (a .kind) in
+    let outcome = made .call .ensures ∙ (λ i. call (a .kind) (a .run .now) (numbers i) (zeroed i)) in
+    (ap (λ (o : Outcome). o .answer) outcome, ap (λ (o : Outcome). o .run) outcome)
+
+pub run-call-spec : {M : Type 1} → statement M
+run-call-spec =
+    tie.close
+    (tie.spec
+    (λ c. few (c .before .before))
+    (λ c. sym (lent _ (few (c .before .before .before))))
+    (λ c κs. lent _ (few (c .before .before .before)))
+    (λ c κs. tt)
+    array-share-prefix-numbers
+    slice-aggregate-call
+    (λ c. written (c .before .before))
+    (λ c. sym (length-take-le _ (zeros 33) (written (c .before .before .before))))
+    (λ c κs. tt)
+    (λ c. search needs)
+    returns)

@@ -1,0 +1,112 @@
+// Running a call sheet: its bytes in, the text of its answers out.
+ghost use mathlib.Core.Path.{_≡_};
+ghost use Prim.Native.Nat.{_+_, _*_, _≤_};
+ghost use lib.ListN.{length};
+ghost use lib.Ieee.{binary64, ofBits};
+ghost use Rattle.drifters_eqf.specs.Entry.{callLength};
+ghost use Rattle.drifters_eqf.specs.Log.{outcome};
+ghost use Rattle.call_sheet.specs.Bytes.{placed};
+ghost use Rattle.call_sheet.specs.Sheet.{sheetCall, bitsIn, callsIn};
+ghost use Rattle.call_sheet.specs.Text.{refusedLine, numbersOf, callOf, linesText, printed, printInto};
+use crate::sheet::Filled;
+use crate::sheet::MOST_CALLS;
+use crate::sheet::MOST_NUMBERS;
+use crate::sheet::kind_of;
+use crate::sheet::read_sheet;
+use crate::text::put;
+use crate::text::put_answer;
+use crate::text::put_line;
+use drifters_entry::entry::FILTER_LENGTH;
+use drifters_entry::entry::STATE_LENGTH;
+use drifters_entry::entry::call;
+use drifters_entry::entry::call_length;
+use drifters_entry::entry::written_length;
+use drifters_eqf::filter::Answer;
+use drifters_eqf::filter::LENGTH_REFUSAL;
+use drifters_eqf::kind::Kind;
+
+// The most bytes of a sheet's text: 23 for each of 255 calls.
+pub const MOST_TEXT: usize = 5865;
+
+// The most numbers of a call.
+const MOST_CALL_NUMBERS: usize = 75;
+
+// Runs a sheet and writes the text of its answers to the front of `text`. Answers the text's length.
+pub fn run_sheet(s: &[u8], text: &mut [u8]) -> Filled
+    ensures { λ r. ⌜ printed r (now (text .exit)) ≡ printInto (now (s .entry)) (now (text .entry)) ⌝ }
+{
+    if text.len() < MOST_TEXT {
+        return Filled::Refused(LENGTH_REFUSAL);
+    }
+    let mut filter = [0u64; FILTER_LENGTH];
+    let mut kinds = [0u32; MOST_CALLS];
+    let mut numbers = [0u64; MOST_NUMBERS];
+    match read_sheet(s, &mut filter, &mut kinds, &mut numbers) {
+        Filled::Length(n) => {
+            let mut run = [0.0; FILTER_LENGTH];
+            numbers_of(&filter, &mut run);
+            Filled::Length(run_calls(&mut run, &kinds[..n], &numbers, text))
+        }
+        Filled::Refused(n) => Filled::Length(put_refused(text, n)),
+    }
+}
+
+// The line of a sheet that is refused.
+fn put_refused(text: &mut [u8], n: u32) -> usize
+    requires { ⌜ 17 ≤ length (now text) ⌝ }
+    ensures { λ r. ⌜ (r ≡ length (refusedLine n)) × (now (text .exit) ≡ placed (now (text .entry)) 0 (refusedLine n)) ⌝ }
+{
+    let end = put_answer(text, 0, Answer::Refused(n));
+    put(text, end, b"\n")
+}
+
+// Makes the calls in turn, each on the filter that the one before it left, and writes their lines to the front of `text`. Answers the length of
+// these.
+fn run_calls(run: &mut [f64], kinds: &[u32], numbers: &[u64], text: &mut [u8]) -> usize
+    requires { ⌜ (bitsIn (now kinds) ≤ length (now numbers)) × (23 * length (now kinds) ≤ length (now text)) ⌝ }
+    ensures { λ r. ⌜ (r ≡ length (linesText 1 (now (run .entry)) (callsIn (now (kinds .entry)) (now (numbers .entry))))) × (now (text .exit) ≡ placed (now (text .entry)) 0 (linesText 1 (now (run .entry)) (callsIn (now (kinds .entry)) (now (numbers .entry))))) ⌝ }
+{
+    let mut at = 0;
+    let mut length = 0;
+    for i in 0..kinds.len() {
+        let kind = kind_of(kinds[i]);
+        let end = at + call_length(kind);
+        let answer = run_call(kind, run, &numbers[at..end]);
+        length = put_line(text, length, i + 1, kind, answer);
+        at = end;
+    }
+    length
+}
+
+// Makes a call whose numbers are given by their bits; what a state call writes is not printed.
+fn run_call(kind: Kind, run: &mut [f64], bits: &[u64]) -> Answer
+    requires { ⌜ length (now bits) ≡ callLength kind ⌝ }
+    ensures { λ r. ⌜ (r ≡ outcome (now (run .entry)) (callOf (sheetCall kind (now (bits .entry)))) .answer) × (now (run .exit) ≡ outcome (now (run .entry)) (callOf (sheetCall kind (now (bits .entry)))) .run) ⌝ }
+{
+    let mut numbers = [0.0; MOST_CALL_NUMBERS];
+    let n = bits.len();
+    numbers_of(bits, &mut numbers[..n]);
+    let mut state = [0.0; STATE_LENGTH];
+    let m = written_length(kind);
+    call(kind, run, &numbers[..n], &mut state[..m])
+}
+
+// The numbers of bit patterns.
+fn numbers_of(bits: &[u64], out: &mut [f64])
+    requires { ⌜ length (now out) ≡ length (now bits) ⌝ }
+    ensures { λ _. ⌜ now (out .exit) ≡ numbersOf (now (bits .entry)) ⌝ }
+{
+    for i in 0..bits.len() {
+        out[i] = number_of(bits[i]);
+    }
+}
+
+// The number of a bit pattern; the patterns of what is not a number give one such.
+fn number_of(bits: u64) -> f64
+    ensures { λ r. ⌜ r ≡ ofBits binary64 bits ⌝ }
+{
+    if 0x7ff0_0000_0000_0000 < bits % 0x8000_0000_0000_0000 {
+        return 0.0 / 0.0;
+    }
+    f64::from_bits(bits)
+}

@@ -1,0 +1,115 @@
+// Runs call sheets with every kind of call and at the edges of the layout, and prints what each is and its text.
+ghost use Prim.Native.Nat.{_+_, _≤_, _<_};
+use libc::STDOUT_FILENO;
+use sheet_io::MOST_READ;
+use sheet_io::print_sheet;
+use sheet_io::read_file;
+
+// The bytes of the sheets that are made here: a call more than the longest.
+const ROOM: usize = 65544;
+
+// What a sheet is, and its text.
+fn report(name: &[u8], sheet: &[u8]) {
+    io::write_all(STDOUT_FILENO, name);
+    io::write_all(STDOUT_FILENO, b":\n");
+    print_sheet(sheet);
+}
+
+// The sheet in a file.
+fn file(name: &[u8], path: &[u8]) {
+    let mut bytes = [0u8; MOST_READ];
+    let n = read_file(path, &mut bytes);
+    report(name, &bytes[..n]);
+}
+
+// A u32 in four bytes, lowest first.
+fn put_u32(bytes: &mut [u8; ROOM], at: usize, n: u32)
+    requires { ⌜ at + 4 ≤ 65544 ⌝ }
+{
+    bytes[at] = (n % 256) as u8;
+    bytes[at + 1] = (n / 256 % 256) as u8;
+    bytes[at + 2] = (n / 65536 % 256) as u8;
+    bytes[at + 3] = (n / 16777216) as u8;
+}
+
+// Entry i of a table: its kind, and the offset of its body.
+fn put_entry(bytes: &mut [u8; ROOM], i: usize, kind: u32, offset: u32)
+    requires { ⌜ i < 257 ⌝ }
+{
+    put_u32(bytes, 4 + 8 * i, kind);
+    put_u32(bytes, 8 + 8 * i, offset);
+}
+
+// Entries from i to n - 1 of one kind, with bodies of `size` bytes, the first at `offset`.
+fn put_entries(bytes: &mut [u8; ROOM], i: usize, n: usize, kind: u32, size: u32, offset: u32)
+    requires { ⌜ (n ≤ 257) × (size ≤ 600) × (offset ≤ 70000) ⌝ }
+{
+    let mut end = offset;
+    for k in i..n {
+        put_entry(bytes, k, kind, end);
+        end += size;
+    }
+}
+
+// The sheet in the first `length` bytes. They come by value: a part of an array behind a reference cannot be lent.
+fn report_front(name: &[u8], bytes: [u8; ROOM], length: usize)
+    requires { ⌜ length ≤ 65544 ⌝ }
+{
+    report(name, &bytes[..length]);
+}
+
+// A filter of zeros and one call, its body at `offset`, in a file of `length` bytes.
+fn one_call(name: &[u8], kind: u32, offset: u32, length: usize)
+    requires { ⌜ length ≤ 65544 ⌝ }
+{
+    let mut bytes = [0u8; ROOM];
+    put_u32(&mut bytes, 0, 2);
+    put_entry(&mut bytes, 0, 0, 20);
+    put_entry(&mut bytes, 1, kind, offset);
+    report_front(name, bytes, length);
+}
+
+// A sheet of n entries: a filter of zeros, and state calls, whose bodies are empty.
+fn states(name: &[u8], n: usize)
+    requires { ⌜ n ≤ 257 ⌝ }
+{
+    let mut bytes = [0u8; ROOM];
+    let end = 3828 + 8 * n;
+    put_u32(&mut bytes, 0, n as u32);
+    put_entry(&mut bytes, 0, 0, (4 + 8 * n) as u32);
+    put_entries(&mut bytes, 1, n, 6, 0, end as u32);
+    report_front(name, bytes, end);
+}
+
+// A sheet of n entries: a filter of zeros, 101 general updates, a propagation, and state calls, in a file of `length` bytes.
+fn long(name: &[u8], n: usize, length: usize)
+    requires { ⌜ (n ≤ 257) × (length ≤ 65544) ⌝ }
+{
+    let mut bytes = [0u8; ROOM];
+    put_u32(&mut bytes, 0, n as u32);
+    put_entry(&mut bytes, 0, 0, (4 + 8 * n) as u32);
+    let updates = (3828 + 8 * n) as u32;
+    put_entries(&mut bytes, 1, 102, 5, 600, updates);
+    put_entries(&mut bytes, 102, 103, 1, 200, updates + 60600);
+    put_entries(&mut bytes, 103, n, 6, 0, updates + 60800);
+    report_front(name, bytes, length);
+}
+
+fn main() {
+    file(b"every kind and every refusal", b"flight.bin");
+    file(b"no such file", b"missing.bin");
+    report(b"an empty file", b"");
+    states(b"no entries", 0);
+    states(b"a filter alone", 1);
+    states(b"256 entries", 256);
+    states(b"257 entries", 257);
+    one_call(b"one call", 6, 3844, 3844);
+    one_call(b"a gap", 6, 3852, 3852);
+    one_call(b"an overlap", 6, 3836, 3844);
+    one_call(b"a byte too many", 6, 3844, 3845);
+    one_call(b"a byte too few", 6, 3844, 3843);
+    one_call(b"kind 7", 7, 3844, 3844);
+    one_call(b"a second filter", 0, 3844, 7668);
+    long(b"the longest sheet", 113, 65532);
+    long(b"a longer one", 114, 65540);
+}
