@@ -1,7 +1,7 @@
 -- No text of a sheet is longer than `mostText`; text in a lent run. Assumes nothing.
 use Prim.Native.Nat.{ℕ, _≤_, _<_}
 use mathlib.Core.Path.{_≡_, refl, sym, ap, _∙_}
-use mathlib.Core.Bool.{Bool, true, false}
+use mathlib.Core.Bool.{Bool, true, false, true≢false}
 use mathlib.Core.List.{List}
 use mathlib.Core.Option.{Option, none, some}
 use native.Mathlib.Omega.{arith}
@@ -49,12 +49,19 @@ abbrev pub numberIn : Filled → ℕ
 numberIn (Length n) = n
 numberIn (Refused n) = n
 
--- what is printed lies within the run
-pub printed-within : (s text : List ℕ) {r : Filled} {out : List ℕ} {n : ℕ} → mostText ≤ length text → printed r out ≡ printInto s text → r ≡ Length n
-    → (n ≤ length out) × (n ≡ length (take n out))
-printed-within s text {r} {out} {n} h e told =
-    let is = e ∙ room s text h in
-    let count : n ≡ length (sheetText s) = ap numberIn (sym told) ∙ ap (λ (p : Printed). numberIn (p .answer)) is in
-    let kept : length out ≡ length text = ap (λ (p : Printed). length (p .text)) is ∙ length-placed text 0 (sheetText s) (omega (arith, textFits s)) in
+-- where a length is answered, it is that of the text, which stands at the front of the run and lies within it
+pub text-printed : (s text : List ℕ) {r : Filled} {out : List ℕ} {n : ℕ} → mostText ≤ length text → printed r out ≡ printInto s text → r ≡ Length n
+    → ((n ≡ length (sheetText s)) × (out ≡ placed text 0 (sheetText s))) × ((n ≤ length out) × (n ≡ length (take n out)))
+text-printed s text {r} {out} {n} h e told =
+    let whole = e ∙ room s text h in
+    let count : n ≡ length (sheetText s) = ap numberIn (sym told) ∙ ap (λ (p : Printed). numberIn (p .answer)) whole in
+    let is : out ≡ placed text 0 (sheetText s) = ap (λ (p : Printed). p .text) whole in
+    let kept = ap length is ∙ length-placed text 0 (sheetText s) (omega (arith, textFits s)) in
     let within : n ≤ length out = omega (arith, count, kept, textFits s) in
-    (within, sym (length-take-le n out within))
+    ((count, is), (within, sym (length-take-le n out within)))
+
+-- a run that holds every text is never refused
+pub never-refused : {B : Type 0} (s text : List ℕ) {r : Filled} {out : List ℕ} {n : ℕ} → mostText ≤ length text → printed r out ≡ printInto s text
+    → r ≡ Refused n → B
+never-refused s text h e told =
+    absurd (true≢false (sym (ap (λ (p : Printed). isLength (p .answer)) (e ∙ room s text h)) ∙ ap isLength told))

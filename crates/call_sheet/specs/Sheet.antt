@@ -158,6 +158,12 @@ inRuns (some sheet) filter kinds numbers =
 unfoldable pub readInto : List ℕ → List ℕ → List ℕ → List ℕ → Runs
 readInto s filter kinds numbers = cond (runsFit filter kinds numbers) (inRuns (readSheet s) filter kinds numbers) (runs (Refused lengthRefusal) filter kinds numbers)
 
+-- 6 is given exactly where the runs hold every sheet and the bytes are none; 1 where a run is too short
+abbrev pub SheetRefusals : Type 0
+SheetRefusals =
+    (s filter kinds numbers : List ℕ) → refusalOf (readInto s filter kinds numbers .answer)
+    ≡ cond (runsFit filter kinds numbers) (cond (isSome (readSheet s)) 0 sheetRefusal) lengthRefusal
+
 -- ---- the way back
 
 -- a kind that was found; a state where there is none

@@ -1,13 +1,13 @@
 // Running a call sheet: its bytes in, the text of its answers out.
 ghost use mathlib.Core.Path.{_≡_};
 ghost use Prim.Native.Nat.{_+_, _*_, _≤_};
-ghost use lib.ListN.{length};
+ghost use lib.ListN.{length, take};
 ghost use lib.Ieee.{binary64, ofBits};
 ghost use Rattle.drifters_eqf.specs.Entry.{callLength};
 ghost use Rattle.drifters_eqf.specs.Log.{outcome};
 ghost use Rattle.call_sheet.specs.Bytes.{placed};
 ghost use Rattle.call_sheet.specs.Sheet.{sheetCall, bitsIn, callsIn};
-ghost use Rattle.call_sheet.specs.Text.{refusedLine, numbersOf, callOf, linesText, printed, printInto};
+ghost use Rattle.call_sheet.specs.Text.{refusedLine, numbersOf, callOf, linesText, sheetText, printed, printInto};
 use crate::sheet::Filled;
 use crate::sheet::MOST_CALLS;
 use crate::sheet::MOST_NUMBERS;
@@ -48,6 +48,17 @@ pub fn run_sheet(s: &[u8], text: &mut [u8]) -> Filled
             Filled::Length(run_calls(&mut run, &kinds[..n], &numbers, text))
         }
         Filled::Refused(n) => Filled::Length(put_refused(text, n)),
+    }
+}
+
+// The same into an array that holds every text, which is never refused.
+pub fn sheet_text(s: &[u8], text: &mut [u8; MOST_TEXT]) -> usize
+    ensures { λ r. ⌜ (r ≡ length (sheetText (now (s .entry)))) × (now (text .exit) ≡ placed (now (text .entry)) 0 (sheetText (now (s .entry)))) ⌝ }
+    ensures { λ r. ⌜ (r ≤ length (now (text .exit))) × (r ≡ length (take r (now (text .exit)))) ⌝ }
+{
+    match run_sheet(s, text) {
+        Filled::Length(n) => n,
+        Filled::Refused(_) => 0,
     }
 }
 

@@ -8,8 +8,6 @@ ghost use Rattle.drifters_core.specs.Matrix.{allFinite};
 ghost use Rattle.drifters_symmetry.specs.Lie.{toArraySe3, vec3At};
 ghost use Rattle.drifters_eqf.specs.Filter.{filterOf};
 ghost use Rattle.drifters_eqf.specs.Run.{filterLength, stateLength, part, mat3At, poseNumbers, fromRun, toRun, stateFromRun, stateToRun};
-use crate::entry::FILTER_LENGTH;
-use crate::entry::STATE_LENGTH;
 use drifters_core::math::matrix::all_finite;
 use drifters_core::math::shapes::Mat3;
 use drifters_core::math::shapes::Mat21;

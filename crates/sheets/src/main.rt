@@ -1,9 +1,10 @@
 // Runs call sheets with every kind of call and at the edges of the layout, and prints what each is and its text.
 ghost use Prim.Native.Nat.{_+_, _≤_, _<_};
+use call_sheet::run::MOST_TEXT;
+use call_sheet::run::sheet_text;
 use libc::STDOUT_FILENO;
-use sheet_io::MOST_READ;
-use sheet_io::print_sheet;
-use sheet_io::read_file;
+use sheet_file::MOST_READ;
+use sheet_file::read_file;
 
 // The bytes of the sheets that are made here: a call more than the longest.
 const ROOM: usize = 65544;
@@ -12,7 +13,9 @@ const ROOM: usize = 65544;
 fn report(name: &[u8], sheet: &[u8]) {
     io::write_all(STDOUT_FILENO, name);
     io::write_all(STDOUT_FILENO, b":\n");
-    print_sheet(sheet);
+    let mut text = [0u8; MOST_TEXT];
+    let length = sheet_text(sheet, &mut text);
+    io::write_all(STDOUT_FILENO, &text[..length]);
 }
 
 // The sheet in a file.
