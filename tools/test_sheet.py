@@ -16,6 +16,24 @@ sheet = importlib.util.module_from_spec(importlib.util.spec_from_loader("sheet",
 loader.exec_module(sheet)
 
 
+# Document 01: how many numbers each kind has, and where each part begins.
+SIZES = [478, 25, 12, 15, 15, 75, 0]
+PLACES = [
+    ("filter", [("A", 0), ("velocity", 9), ("position", 12), ("gamma", 15), ("delta", 21), ("E", 24), ("sigma", 33), ("gravity", 474), ("alpha", 477)]),
+    ("propagate", [("omega", 0), ("accel", 3), ("dt", 6), ("density.gyro", 7), ("density.accel", 10), ("density.gyro_bias", 13),
+                   ("density.accel_bias", 16), ("density.lever", 19), ("density.mag", 22)]),
+    ("position", [("antenna", 0), ("noise", 3)]),
+    ("velocity", [("antenna", 0), ("omega", 3), ("noise", 6)]),
+    ("direction", [("measured", 0), ("north", 3), ("noise", 6)]),
+    ("general", [("output", 0), ("innovation", 63), ("noise", 66)]),
+    ("state", []),
+]
+
+
+def parsed(*lines):
+    return sheet.parse([line.encode() for line in lines])
+
+
 def path(*names):
     return os.path.join(ROOT, "crates", *names)
 
@@ -27,18 +45,29 @@ def content(name):
 
 class Build(unittest.TestCase):
     def test_the_repositorys_sheets(self):
-        for text, data in [("sheet/sheet.txt", "sheet/data/sheet.bin"), ("sheets/flight.txt", "sheets/data/flight.bin")]:
-            with open(path(text), encoding="utf-8") as file:
-                self.assertEqual(sheet.pack(sheet.parse(file)), content(path(data)))
+        for text, data in [("sheet/sheet.txt", "sheet/data/sheet.bin"), ("sheets/flight.txt", "sheets/data/flight.bin"),
+                           ("sheets/overflow.txt", "sheets/data/overflow.bin")]:
+            with tempfile.TemporaryDirectory() as folder:
+                made = os.path.join(folder, "sheet.bin")
+                sheet.main(["build", path(text), made])
+                self.assertEqual(content(made), content(path(data)))
 
     def test_what_is_packed_unpacks(self):
-        entries = sheet.parse(["filter alpha=0x7FF0000000000001", "state", "position antenna=-0.0,nan,1e-320"])
+        entries = parsed("filter alpha=0x7FF0000000000001", "state", "position antenna=-0.0,nan,1e-320")
         self.assertEqual(sheet.unpack(sheet.pack(entries)), entries)
 
     def bad(self, message, *lines):
         with self.assertRaises(sheet.Bad) as raised:
-            sheet.pack(sheet.parse(lines))
+            parsed(*lines)
         self.assertEqual(str(raised.exception), message)
+
+    def test_places(self):
+        """Each part at document 01's place."""
+        for kind, (word, places) in enumerate(PLACES):
+            parts = [f"{name}={','.join(str(k) for k in range(first, end))}"
+                     for (name, first), (_, end) in zip(places, [*places[1:], ("", SIZES[kind])])]
+            entry = sheet.entry(" ".join([word, *reversed(parts)]))
+            self.assertEqual(entry, (kind, [sheet.bits(str(k)) for k in range(SIZES[kind])]))
 
     def test_bad_text(self):
         self.bad("there is no filter", "# nothing")
@@ -49,12 +78,18 @@ class Build(unittest.TestCase):
         self.bad("line 1: 'alpha' is no part: NAME=NUMBERS", "filter alpha")
         self.bad("line 1: alpha is given twice", "filter alpha=1 alpha=1")
         self.bad("line 1: 'one' is not a number", "filter alpha=one")
-        self.bad("line 1: '' is not a number", "filter alpha=")
+        self.bad("line 1: a number is missing; a part has no space inside", "filter alpha= 1")
+        self.bad("line 1: '1_0' is not a number", "filter alpha=1_0")
+        self.bad("line 1: 1e400 is too large", "filter alpha=1e400")
+        self.bad("line 1: '0x7FF' has not 16 hexadecimal digits after 0x", "filter alpha=0x7FF")
         self.bad("line 1: gravity has 2 numbers in place of 3", "filter gravity=0,1")
         self.bad("line 1: A has 2 numbers in place of 3", "filter A=diagonal:1,1")
         self.bad("line 1: gravity is not square", "filter gravity=diagonal:1")
-        self.bad("257 entries, more than 256", "filter", *["state"] * 256)
-        self.bad("67676 bytes, more than 65536", "filter", *["general"] * 105)
+        self.bad("line 257: more than 256 entries", "filter", *["state"] * 256)
+        self.bad("line 103: more than 65536 bytes", "filter", *["general"] * 105)
+        with self.assertRaises(sheet.Bad) as raised:
+            sheet.parse([b"filter\n", b"\xff\n"])
+        self.assertEqual(str(raised.exception), "line 2: not text in UTF-8")
 
 
 class Show(unittest.TestCase):
@@ -85,7 +120,11 @@ class Show(unittest.TestCase):
     def test_bad_answers(self):
         entries = sheet.unpack(content(path("sheet/data/sheet.bin")))
         for lines, message in [
-            (["1 2 ok", "2 3 ok"], "line 2: '2 3 ok' is not the answer of entry 2"),
+            (["1 2 refused 4\n", "2 3 ok\n"], "line 2: '2 3 ok' is no answer of entry 2, of kind 2"),
+            (["1 2 ok\n"], "line 1: '1 2 ok' is no answer of entry 1, of kind 2"),
+            (["1 2 3ff0000000000000\n"], "line 1: '1 2 3ff0000000000000' is no answer of entry 1, of kind 2"),
+            (["1 2 refused 4\n"], "1 answers of 3 calls"),
+            ([f"{i} 2 refused 4\n" for i in range(1, 5)], "line 4: the sheet has 3 calls"),
             (["refused 6\n"], "the sheet is refused"),
         ]:
             with self.assertRaises(sheet.Bad) as raised:

@@ -34,7 +34,7 @@ use Rattle.call_sheet.specs.Sheet.{
   Sheet,
   allKinds,
   findKind,
-  before,
+  withCall,
   callBefore,
   callsAt,
   headerFits,
@@ -118,7 +118,7 @@ unfolding callsAt
 next k i s place cs e = by-offset (eqb (offsetAt s i) place) refl e
   where
     by-rest : (kind : Kind) (o : Option (List SheetCall)) → offsetAt s i ≡ place → findKind (kindAt s i) allKinds ≡ some kind
-        → callsAt k (i + 1) s (place + 8 * callLength kind) ≡ o → before (sheetCall kind (u64sAt (callLength kind) s place)) o ≡ some cs
+        → callsAt k (i + 1) s (place + 8 * callLength kind) ≡ o → withCall (sheetCall kind (u64sAt (callLength kind) s place)) o ≡ some cs
         → Next k i s place cs
     by-rest kind none p f r e = no-some e
     by-rest kind (some rest) p f r e = record {
@@ -164,7 +164,7 @@ calls-step n i s place {k} {m} h e least most p l =
     step : n - i ≡ suc (n - (i + 1))
     step = omega arith
 
-    go : (o : Option (List SheetCall)) → isSome (before (sheetCall (kindOf k) (u64sAt (callLength (kindOf k)) s place)) o) ≡ isSome o
+    go : (o : Option (List SheetCall)) → isSome (withCall (sheetCall (kindOf k) (u64sAt (callLength (kindOf k)) s place)) o) ≡ isSome o
     go none = refl
     go (some cs) = refl
 

@@ -57,6 +57,10 @@ readings =
     -- 256 entries are in range, 257 are not
     ∷ reads (truth (headerFits (u32 0 1 ++ u32 0 0 ++ u32 4 8))) (truth true)
     ∷ reads (truth (headerFits (u32 1 1 ++ u32 0 0 ++ u32 12 8))) (truth false)
+    -- the first entry is a filter, right after the table
+    ∷ reads (truth (headerFits (u32 1 0 ++ u32 0 0 ++ u32 12 0))) (truth true)
+    ∷ reads (truth (headerFits (u32 1 0 ++ u32 1 0 ++ u32 12 0))) (truth false)
+    ∷ reads (truth (headerFits (u32 1 0 ++ u32 0 0 ++ u32 13 0))) (truth false)
     -- a filter alone prints nothing; a byte too many or too few is refused
     ∷ reads (sheetText (filterAlone 3824)) []
     ∷ reads (sheetText (filterAlone 3825)) refusedSix

@@ -72,15 +72,15 @@ findKind n (kind ∷ kinds) = cond (eqb n (kindNumber kind)) (some kind) (findKi
 abbrev pub KindsFound : Type 0
 KindsFound = (kind : Kind) → findKind (kindNumber kind) allKinds ≡ some kind
 
--- a call before others
-abbrev pub before : SheetCall → Option (List SheetCall) → Option (List SheetCall)
-before c none = none
-before c (some cs) = some (c ∷ cs)
+-- a call, and those that follow it
+abbrev pub withCall : SheetCall → Option (List SheetCall) → Option (List SheetCall)
+withCall c none = none
+withCall c (some cs) = some (c ∷ cs)
 
 -- the call of a kind whose body is at a place, before those that follow it; none where there is no kind
 abbrev pub callBefore : Option Kind → List ℕ → ℕ → (ℕ → Option (List SheetCall)) → Option (List SheetCall)
 callBefore none s place rest = none
-callBefore (some kind) s place rest = before (sheetCall kind (u64sAt (callLength kind) s place)) (rest (place + 8 * callLength kind))
+callBefore (some kind) s place rest = withCall (sheetCall kind (u64sAt (callLength kind) s place)) (rest (place + 8 * callLength kind))
 
 -- k entries from entry i on, the first body at a place: each begins where the one before it ends, and the file ends with the last
 unfoldable pub callsAt : ℕ → ℕ → List ℕ → ℕ → Option (List SheetCall)
@@ -115,7 +115,7 @@ isSome (some a) = true
 abbrev pub mostCalls : ℕ
 mostCalls = 255
 
--- the most numbers of its calls: each is eight bytes
+-- room for the numbers of all its calls: each is eight bytes
 abbrev pub mostNumbers : ℕ
 mostNumbers = 8192
 
@@ -144,7 +144,7 @@ pub record Runs : Type 0 where
 abbrev pub runs : Filled → List ℕ → List ℕ → List ℕ → Runs
 runs answer filter kinds numbers = record { answer = answer; filter = filter; kinds = kinds; numbers = numbers }
 
--- the runs hold every sheet
+-- the runs are of their stated lengths: 478, and at least 255 and 8192, which hold every sheet
 abbrev pub runsFit : List ℕ → List ℕ → List ℕ → Bool
 runsFit filter kinds numbers = eqb (length filter) filterLength && leb mostCalls (length kinds) && leb mostNumbers (length numbers)
 
@@ -158,7 +158,7 @@ inRuns (some sheet) filter kinds numbers =
 unfoldable pub readInto : List ℕ → List ℕ → List ℕ → List ℕ → Runs
 readInto s filter kinds numbers = cond (runsFit filter kinds numbers) (inRuns (readSheet s) filter kinds numbers) (runs (Refused lengthRefusal) filter kinds numbers)
 
--- 6 is given exactly where the runs hold every sheet and the bytes are none; 1 where a run is too short
+-- 1 is given exactly where a run is not of its stated length, 6 where all are and the bytes are no sheet
 abbrev pub SheetRefusals : Type 0
 SheetRefusals =
     (s filter kinds numbers : List ℕ) → refusalOf (readInto s filter kinds numbers .answer)
@@ -171,7 +171,7 @@ abbrev pub foundKind : Option Kind → Kind
 foundKind none = State
 foundKind (some kind) = kind
 
--- the kind of a number
+-- the kind of a number; a state where it has none
 unfoldable pub kindOf : ℕ → Kind
 kindOf n = foundKind (findKind n allKinds)
 

@@ -71,7 +71,7 @@ textOf (some sheet) = linesText 1 (numbersOf (sheet .filter)) (sheet .calls)
 unfoldable pub sheetText : List ℕ → List ℕ
 sheetText s = textOf (readSheet s)
 
--- the most bytes of a sheet's text: 23 for each of 255 calls
+-- room for every sheet's text: 23 bytes for each of 255 calls
 abbrev pub mostText : ℕ
 mostText = 5865
 
@@ -88,7 +88,7 @@ pub record Printed : Type 0 where
 abbrev pub printed : Filled → List ℕ → Printed
 printed answer text = record { answer = answer; text = text }
 
--- the text for a file's bytes at the front of a lent run; one that is too short for some sheet's text stays
+-- the text for a file's bytes at the front of a lent run; one that is shorter than `mostText` stays
 unfoldable pub printInto : List ℕ → List ℕ → Printed
 printInto s text =
     cond (leb mostText (length text)) (printed (filled.Length (length (sheetText s))) (placed text 0 (sheetText s))) (printed (filled.Refused lengthRefusal) text)

@@ -25,7 +25,7 @@ use drifters_eqf::filter::Answer;
 use drifters_eqf::filter::LENGTH_REFUSAL;
 use drifters_eqf::kind::Kind;
 
-// The most bytes of a sheet's text: 23 for each of 255 calls.
+// Room for every sheet's text: 23 bytes for each of 255 calls.
 pub const MOST_TEXT: usize = 5865;
 
 // The most numbers of a call.
@@ -113,7 +113,7 @@ fn numbers_of(bits: &[u64], out: &mut [f64])
 }
 
 // The number of a bit pattern; the patterns of what is not a number give one such.
-fn number_of(bits: u64) -> f64
+pub fn number_of(bits: u64) -> f64
     ensures { λ r. ⌜ r ≡ ofBits binary64 bits ⌝ }
 {
     if 0x7ff0_0000_0000_0000 < bits % 0x8000_0000_0000_0000 {

@@ -16,7 +16,7 @@ use drifters_eqf::kind::Kind;
 const MOST_ENTRIES: usize = 256;
 
 // The most bytes of a sheet.
-const MOST_BYTES: usize = 65536;
+pub const MOST_BYTES: usize = 65536;
 
 // The highest number of a kind.
 const MOST_KIND: u32 = 6;
@@ -24,7 +24,7 @@ const MOST_KIND: u32 = 6;
 // The most calls of a sheet.
 pub const MOST_CALLS: usize = 255;
 
-// The most numbers of its calls: each is eight bytes.
+// Room for the numbers of all its calls: each is eight bytes.
 pub const MOST_NUMBERS: usize = 8192;
 
 // The number of the refusal of a sheet.
@@ -36,7 +36,8 @@ pub enum Filled {
     Refused(u32),
 }
 
-// Reads a sheet: the bits of its filter, the kinds of its calls, and the bits of their numbers one after another. Answers how many calls it has.
+// Reads a sheet: the bits of its filter, the kinds of its calls, and the bits of their numbers one after another, as many as each kind has
+// (`call_length` of `kind_of`). Answers how many calls it has.
 pub fn read_sheet(s: &[u8], filter: &mut [u64], kinds: &mut [u32], numbers: &mut [u64]) -> Filled
     ensures { λ r. ⌜ runs r (now (filter .exit)) (now (kinds .exit)) (now (numbers .exit)) ≡ readInto (now (s .entry)) (now (filter .entry)) (now (kinds .entry)) (now (numbers .entry)) ⌝ }
 {
@@ -106,7 +107,7 @@ fn read_kinds(s: &[u8], kinds: &mut [u32])
 }
 
 // The kind of a number; a state where a number is of none.
-pub(crate) fn kind_of(n: u32) -> Kind
+pub fn kind_of(n: u32) -> Kind
     ensures { λ r. ⌜ r ≡ kindOf n ⌝ }
 {
     match n {
@@ -120,7 +121,7 @@ pub(crate) fn kind_of(n: u32) -> Kind
 }
 
 // The number of a kind.
-pub(crate) fn kind_number(kind: Kind) -> u64
+pub fn kind_number(kind: Kind) -> u64
     ensures { λ r. ⌜ r ≡ kindNumber kind ⌝ }
 {
     match kind {

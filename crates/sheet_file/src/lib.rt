@@ -1,10 +1,7 @@
-// Reads a file into a lent run of bytes.
+// Reads a whole file into a lent run of bytes.
 ghost use Rattle.io.specs.Counts.{Counts};
 
-// The most bytes that are read of a sheet's file: one more than the longest sheet has, so that a longer file is seen to be too long.
-pub const MOST_READ: usize = 65537;
-
-// The file's bytes, as many as fit, at the front of `bytes`; answers how many there are, 0 where the file cannot be read.
+// The file's bytes at the front of `bytes`; answers how many there are. 0 where the file cannot be read to its end, or is longer than `bytes`.
 pub fn read_file(path: &[u8], bytes: &mut [u8]) -> usize
     ensures { λ r. ⌜ Counts r (now (bytes .exit)) ⌝ }
 {
@@ -13,6 +10,11 @@ pub fn read_file(path: &[u8], bytes: &mut [u8]) -> usize
         return 0;
     }
     let n = io::read_full(fd, bytes);
+    let mut more = [0u8; 1];
+    let rest = libc::read(fd, &mut more);
     libc::close(fd);
+    if rest != 0 {
+        return 0;
+    }
     n
 }

@@ -1,12 +1,15 @@
 // Runs call sheets with every kind of call and at the edges of the layout, and prints what each is and its text.
 ghost use Prim.Native.Nat.{_+_, _≤_, _<_};
 use call_sheet::run::MOST_TEXT;
+use call_sheet::run::run_sheet;
 use call_sheet::run::sheet_text;
+use call_sheet::sheet::Filled;
+use call_sheet::sheet::MOST_BYTES;
+use drifters_eqf::filter::LENGTH_REFUSAL;
 use libc::STDOUT_FILENO;
-use sheet_file::MOST_READ;
 use sheet_file::read_file;
 
-// The bytes of the sheets that are made here: a call more than the longest.
+// Room for the sheets that are made here, the longest of them longer than a sheet may be.
 const ROOM: usize = 65544;
 
 // What a sheet is, and its text.
@@ -20,7 +23,7 @@ fn report(name: &[u8], sheet: &[u8]) {
 
 // The sheet in a file.
 fn file(name: &[u8], path: &[u8]) {
-    let mut bytes = [0u8; MOST_READ];
+    let mut bytes = [0u8; MOST_BYTES];
     let n = read_file(path, &mut bytes);
     report(name, &bytes[..n]);
 }
@@ -54,11 +57,19 @@ fn put_entries(bytes: &mut [u8; ROOM], i: usize, n: usize, kind: u32, size: u32,
     }
 }
 
-// The sheet in the first `length` bytes. They come by value: a part of an array behind a reference cannot be lent.
+// The sheet in the first `length` bytes. They come by value, so that their number is known.
 fn report_front(name: &[u8], bytes: [u8; ROOM], length: usize)
     requires { ⌜ length ≤ 65544 ⌝ }
 {
     report(name, &bytes[..length]);
+}
+
+// A filter of zeros alone, by its entry.
+fn filter_entry(name: &[u8], kind: u32, offset: u32) {
+    let mut bytes = [0u8; ROOM];
+    put_u32(&mut bytes, 0, 1);
+    put_entry(&mut bytes, 0, kind, offset);
+    report_front(name, bytes, 3836);
 }
 
 // A filter of zeros and one call, its body at `offset`, in a file of `length` bytes.
@@ -98,21 +109,43 @@ fn long(name: &[u8], n: usize, length: usize)
     report_front(name, bytes, length);
 }
 
+// A text run that is a byte too short is refused 1.
+fn short_text() {
+    let mut text = [0u8; MOST_TEXT - 1];
+    if let Filled::Refused(n) = run_sheet(b"", &mut text) {
+        if n == LENGTH_REFUSAL {
+            io::write_all(STDOUT_FILENO, b"a text run a byte too short:\nrefused 1\n");
+        }
+    }
+}
+
+// A filter of zeros and one call: in its place, and out of it.
+fn one_calls() {
+    one_call(b"a position call", 2, 3844, 3940);
+    one_call(b"a gap", 2, 3852, 3948);
+    one_call(b"an offset too high", 2, 3852, 3940);
+    one_call(b"an overlap", 2, 3836, 3932);
+    one_call(b"an offset too low", 2, 3836, 3940);
+    one_call(b"a byte too many", 2, 3844, 3941);
+    one_call(b"a byte too few", 2, 3844, 3939);
+    one_call(b"a state call", 6, 3844, 3844);
+    one_call(b"kind 7", 7, 3844, 3940);
+    one_call(b"a second filter", 0, 3844, 7668);
+}
+
 fn main() {
     file(b"every kind and every refusal", b"flight.bin");
+    file(b"large numbers", b"overflow.bin");
     file(b"no such file", b"missing.bin");
     report(b"an empty file", b"");
     states(b"no entries", 0);
     states(b"a filter alone", 1);
     states(b"256 entries", 256);
     states(b"257 entries", 257);
-    one_call(b"one call", 6, 3844, 3844);
-    one_call(b"a gap", 6, 3852, 3852);
-    one_call(b"an overlap", 6, 3836, 3844);
-    one_call(b"a byte too many", 6, 3844, 3845);
-    one_call(b"a byte too few", 6, 3844, 3843);
-    one_call(b"kind 7", 7, 3844, 3844);
-    one_call(b"a second filter", 0, 3844, 7668);
+    filter_entry(b"a filter of kind 1", 1, 12);
+    filter_entry(b"a filter at 13", 0, 13);
+    one_calls();
     long(b"the longest sheet", 113, 65532);
     long(b"a longer one", 114, 65540);
+    short_text();
 }

@@ -102,7 +102,11 @@ fn checked(f: &mut EqFilter, kind: u32, numbers: &[f64]) -> String {
     }
     let before = f.clone();
     let answer = call(f, kind, numbers);
-    let kept = finite(f) && finite_state(&f.nav_state()) && !matches!(answer, Answer::Nis(x) if !x.is_finite());
+    let kept = match answer {
+        Answer::Nis(x) => x.is_finite() && finite(f),
+        Answer::NoFactor => true,
+        Answer::Fine => finite(f) && (kind != 6 || finite_state(&f.nav_state())),
+    };
     if !kept {
         *f = before;
         return "-".into();
