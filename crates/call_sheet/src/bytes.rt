@@ -17,8 +17,11 @@ pub(crate) fn u32_at(s: &[u8], at: usize) -> u32
     requires { ⌜ at + 4 ≤ length (now s) ⌝ }
     ensures { λ r. ⌜ r ≡ u32At (now (s .entry)) at ⌝ }
 {
-    byte_at(s, at)
-        + 256 * (byte_at(s, at + 1) + 256 * (byte_at(s, at + 2) + 256 * byte_at(s, at + 3)))
+    let a = byte_at(s, at);
+    let b = byte_at(s, at + 1);
+    let c = byte_at(s, at + 2);
+    let d = byte_at(s, at + 3);
+    a + 256 * (b + 256 * (c + 256 * d))
 }
 
 // The u64 in the eight bytes from a place on.
