@@ -1,10 +1,14 @@
-//! Links the port's static library: PORT is the folder that has libdrifters_core_c.a.
+//! Links a static library of the port: PORT is the folder that has it. The package `port` links the calls, another the leaves.
 use std::env;
 
 fn main() {
+    let library = match env::var("CARGO_PKG_NAME").as_deref() {
+        Ok("port") => "drifters_eqf_c",
+        _ => "drifters_leaves_c",
+    };
     println!("cargo:rerun-if-env-changed=PORT");
-    let port = env::var("PORT").expect("PORT: the folder of libdrifters_core_c.a");
-    println!("cargo:rerun-if-changed={port}/libdrifters_core_c.a");
-    println!("cargo:rustc-link-search=native={port}");
-    println!("cargo:rustc-link-lib=static=drifters_core_c");
+    let folder = env::var("PORT").expect("PORT: the folder of the port's static libraries");
+    println!("cargo:rerun-if-changed={folder}/lib{library}.a");
+    println!("cargo:rustc-link-search=native={folder}");
+    println!("cargo:rustc-link-lib=static={library}");
 }

@@ -5,15 +5,11 @@
 
 use core::arch::x86_64::{_mm_cvtsd_f64, _mm_set_sd, _mm_sqrt_sd};
 
-extern "C" {
-    fn drifters_sin_cos(theta: f64, cos: &mut f64) -> f64;
-}
-
+#[inline]
 pub fn sincos(x: f64) -> (f64, f64) {
-    let mut cos = 0.0;
-    // SAFETY: the port's function takes every number and writes only `cos`.
-    let sin = unsafe { drifters_sin_cos(x, &mut cos) };
-    (sin, cos)
+    let mut both = [0.0; 2];
+    port::sin_cos(x, &mut both);
+    (both[0], both[1])
 }
 
 pub fn sin(x: f64) -> f64 {
@@ -24,6 +20,7 @@ pub fn cos(x: f64) -> f64 {
     sincos(x).1
 }
 
+#[inline]
 pub fn sqrt(x: f64) -> f64 {
     // SAFETY: SSE2 is part of x86-64.
     unsafe { _mm_cvtsd_f64(_mm_sqrt_sd(_mm_set_sd(0.0), _mm_set_sd(x))) }

@@ -1,0 +1,36 @@
+-- `calls::run_call` is safe: no call has more than 75 numbers, and none writes more than 33.
+use mathlib.Core.Path.{_≡_, sym}
+use Prim.Native.Nat.{_≤_}
+use native.Mathlib.Omega.{arith}
+use borrow.Author.Needs.{needs}
+use lib.ListN.{length}
+use lib.Seq.{length-take-le}
+use Rattle.call_sheet.proofs.Lines.{written-short}
+use Rattle.call_sheet.proofs.SheetLayout.{call-most}
+use Rattle.replay.proofs.calls.run_call.Statement.{statement}
+use Rattle.replay.proofs.calls.run_call.Tie as tie
+
+few : (c : tie.After-call-length) → c .call-length .result ≤ length (c .before .numbers-of .result)
+few c =
+    let held : length (c .before .numbers-of .result) ≡ 75 = search needs in
+    omega (arith, c .call-length .ensures, call-most (c .before .before .before .args .kind))
+
+written : (c : tie.After-written-length) → c .written-length .result ≤ 33
+written c = omega (arith, c .written-length .ensures, written-short (c .before .before .before .before .args .kind))
+
+pub run-call-spec : {M : Type 1} → statement M
+run-call-spec =
+    tie.close
+    (tie.spec
+    (λ c κs. search needs)
+    (λ c κs. tt)
+    (λ c κs. tt)
+    (λ c. few (c .before .before))
+    (λ c. sym (length-take-le _ _ (few (c .before .before .before))))
+    (λ c. written (c .before .before))
+    (λ c. sym (length-take-le _ _ (written (c .before .before .before))))
+    (λ c κs. tt)
+    (λ c κs. tt)
+    (λ c κs. tt)
+    (λ c. search needs)
+    (λ c. tt))

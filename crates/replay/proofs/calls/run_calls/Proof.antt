@@ -1,0 +1,42 @@
+-- `calls::run_calls` is safe: call i begins at most 75 * i numbers on.
+use mathlib.Core.Path.{_≡_}
+use Prim.Native.Nat.{_*_, _-_, _≤_}
+use native.Mathlib.Omega.{arith}
+use borrow.Author.Needs.{needs}
+use lib.ListN.{length}
+use Rattle.call_sheet.proofs.SheetLayout.{call-most}
+use Rattle.replay.proofs.calls.run_calls.Statement.{statement}
+use Rattle.replay.proofs.calls.run_calls.Tie as tie
+
+abbrev Inv-loop : tie.InvT-loop
+Inv-loop run₀ kinds n bits answers t₀ at₀ i₀ run t at i = (i ≤ n) × ((at ≤ 75 * i) × (length run ≡ length run₀))
+
+abbrev μ-loop : tie.MeasureT-loop
+μ-loop run₀ kinds n bits answers t₀ at₀ i₀ run t at i = n - i
+
+-- the call that was made has at most 75 numbers
+few : (c : tie.After-call-length Inv-loop μ-loop) → c .call-length .result ≤ 75
+few c = omega (arith, c .call-length .ensures, call-most (c .before .before .before .before .before .before .before .kind-of .result))
+
+pub run-calls-spec : {M : Type 1} → statement M
+run-calls-spec =
+    tie.close
+    (tie.spec
+    Inv-loop
+    μ-loop
+    (λ c κs. tt)
+    (λ c. search needs)
+    (λ c. search needs)
+    (λ c. search needs)
+    (λ c κs. tt)
+    (λ c κs. omega arith)
+    (λ c. search needs)
+    (λ c κs. omega arith)
+    (λ c κs. tt)
+    (λ c κs. tt)
+    (λ c. omega (arith, few c))
+    (λ c. search needs)
+    (λ c. search needs)
+    (λ c. (search needs, (omega (arith, few c), search needs)))
+    (λ c. search needs)
+    (λ c. tt))

@@ -1,0 +1,51 @@
+// What came of a call, and whether the original's stored answer is the same.
+ghost use Prim.Native.Nat.{_+_, _≤_};
+ghost use lib.ListN.{length};
+use crate::bytes::u64_at;
+use crate::digest::bits_of;
+use drifters_eqf::filter::Answer;
+
+// Of a stored answer: a code, the bits of the NIS, the digest of the run lent for a state, that of the filter.
+pub(crate) const ANSWER_BYTES: usize = 32;
+
+// The code of a NIS, which no refusal has.
+const NIS: u64 = 7;
+
+// What the runs that a call may write hold before it: a refusal leaves it there.
+pub(crate) const UNTOUCHED: f64 = 1.5;
+
+pub(crate) struct Outcome {
+    pub(crate) answer: Answer,
+    pub(crate) state: u64,
+    pub(crate) filter: u64,
+}
+
+// 0 for ok, 7 for a NIS, else the number of the refusal.
+fn code(answer: Answer) -> u64 {
+    match answer {
+        Answer::Fine => 0,
+        Answer::Nis(_) => NIS,
+        Answer::Refused(n) => n as u64,
+    }
+}
+
+// The bits of a NIS; 0 for another answer.
+fn nis_bits(answer: Answer) -> u64 {
+    match answer {
+        Answer::Nis(x) => bits_of(x),
+        _ => 0,
+    }
+}
+
+impl Outcome {
+    // Whether the answer stored from a place on is the same.
+    pub(crate) fn is_stored(self, answers: &[u8], at: usize) -> bool
+        requires { ⌜ at + 32 ≤ length (now answers) ⌝ }
+    {
+        let answer = self.answer;
+        (code(answer) == u64_at(answers, at))
+            & (nis_bits(answer) == u64_at(answers, at + 8))
+            & (self.state == u64_at(answers, at + 16))
+            & (self.filter == u64_at(answers, at + 24))
+    }
+}

@@ -1,0 +1,85 @@
+// Document 01's readings that have no star: the lengths of the runs, and the text of sheets.
+ghost use Prim.Native.Nat.{_≤_};
+use crate::calls::unread;
+use call_sheet::run::MOST_TEXT;
+use call_sheet::run::sheet_text;
+use call_sheet::sheet::MOST_BYTES;
+use drifters_entry::entry;
+use drifters_eqf::filter::Answer;
+use drifters_eqf::filter::LENGTH_REFUSAL;
+use libc::STDOUT_FILENO;
+use sheet_file::read_file;
+
+// 1 for the refusal by length, 0 for another answer.
+fn by_length(answer: Answer) -> u64
+    ensures { λ r. ⌜ r ≤ 1 ⌝ }
+{
+    match answer {
+        Answer::Refused(n) => { if n == LENGTH_REFUSAL { 1 } else { 0 } }
+        _ => 0,
+    }
+}
+
+// How many of the five calls with numbers are refused by length. Each has `less` numbers fewer than one too many: 1 gives the stated length.
+fn refused_calls(run: &mut [f64], less: usize) -> u64
+    requires { ⌜ less ≤ 2 ⌝ }
+    ensures { λ r. ⌜ r ≤ 5 ⌝ }
+{
+    let numbers = [0.0; 76];
+    let a = by_length(entry::propagate(run, &numbers[..26 - less]));
+    let b = by_length(entry::update_position(run, &numbers[..13 - less]));
+    let c = by_length(entry::update_velocity(run, &numbers[..16 - less]));
+    let d = by_length(entry::update_direction(run, &numbers[..16 - less]));
+    let e = by_length(entry::update(run, &numbers[..76 - less]));
+    a + b + c + d + e
+}
+
+// The same of a state and a start.
+fn refused_others(run: &mut [f64], less: usize) -> u64
+    requires { ⌜ less ≤ 2 ⌝ }
+    ensures { λ r. ⌜ r ≤ 2 ⌝ }
+{
+    let mut state = [0.0; 34];
+    let numbers = [0.0; 478];
+    let a = by_length(entry::nav_state(run, &mut state[..34 - less]));
+    let b = by_length(entry::start(run, &numbers[..478 - less]));
+    a + b
+}
+
+// Prints how many of the seven entries are refused by length.
+fn refused(name: &[u8], run: &mut [f64], less: usize)
+    requires { ⌜ less ≤ 2 ⌝ }
+{
+    let n = refused_calls(run, less) + refused_others(run, less);
+    io::write_all(STDOUT_FILENO, name);
+    io::write_all(STDOUT_FILENO, b": ");
+    io::print_decimal(STDOUT_FILENO, n);
+    io::write_all(STDOUT_FILENO, b" of 7 entries refused 1\n");
+}
+
+// Runs one number shorter and one longer than stated, and as stated.
+pub(crate) fn print_lengths() {
+    let mut short = [0.0; 477];
+    let mut run = [0.0; 478];
+    let mut long = [0.0; 479];
+    refused(b"a filter of 477 numbers", &mut short, 1);
+    refused(b"a filter of 479 numbers", &mut long, 1);
+    refused(b"a number too few", &mut run, 2);
+    refused(b"a number too many", &mut run, 0);
+    refused(b"every length as stated", &mut run, 1);
+}
+
+// A sheet's file as the program `sheet` prints it.
+pub(crate) fn print_sheet(name: &[u8], path: &[u8]) {
+    let mut bytes = [0u8; MOST_BYTES];
+    let n = read_file(path, &mut bytes);
+    if n == 0 {
+        unread(name);
+        return;
+    }
+    let mut text = [0u8; MOST_TEXT];
+    let length = sheet_text(&bytes[..n], &mut text);
+    io::write_all(STDOUT_FILENO, name);
+    io::write_all(STDOUT_FILENO, b":\n");
+    io::write_all(STDOUT_FILENO, &text[..length]);
+}

@@ -1,0 +1,103 @@
+//! Document 01's half turn on the compiled port: a log and the log read through a half turn give answers and filters that are each other's.
+use crate::in_threads;
+use crate::lent::Lent;
+use inputs::{log, Manner, Numbers};
+
+const LOGS: u64 = 24_000;
+const LOG_CALLS: usize = 24;
+
+type Signs = [f64; 3];
+
+const TURNS: [Signs; 3] = [[1.0, -1.0, -1.0], [-1.0, 1.0, -1.0], [-1.0, -1.0, 1.0]];
+
+/// Multiplies the rows of a matrix, or the numbers of vectors of one column, by the signs.
+fn turn_rows(s: &Signs, columns: usize, numbers: &mut [f64]) {
+    for (i, row) in numbers.chunks_mut(columns).enumerate() {
+        row.iter_mut().for_each(|x| *x *= s[i % 3]);
+    }
+}
+
+/// Multiplies the rows and the columns of a matrix by the signs.
+fn turn_both(s: &Signs, columns: usize, numbers: &mut [f64]) {
+    turn_rows(s, columns, numbers);
+    for row in numbers.chunks_mut(columns) {
+        turn_rows(s, 1, row);
+    }
+}
+
+fn turn_pose(s: &Signs, numbers: &mut [f64]) {
+    turn_rows(s, 3, &mut numbers[..9]);
+    turn_rows(s, 1, &mut numbers[9..15]);
+}
+
+fn turned_filter(s: &Signs, run: &[f64]) -> Vec<f64> {
+    let mut run = run.to_vec();
+    turn_pose(s, &mut run);
+    turn_rows(s, 1, &mut run[15..24]);
+    turn_rows(s, 3, &mut run[24..33]);
+    turn_both(s, 21, &mut run[33..474]);
+    turn_rows(s, 1, &mut run[474..477]);
+    run
+}
+
+fn turned_call(s: &Signs, kind: u32, numbers: &[f64]) -> Vec<f64> {
+    let mut turned = numbers.to_vec();
+    match kind {
+        2 | 3 => turn_rows(s, 1, &mut turned[..3]),
+        4 => turn_rows(s, 1, &mut turned[3..6]),
+        5 => {
+            turn_both(s, 21, &mut turned[..63]);
+            turn_rows(s, 1, &mut turned[63..66]);
+        }
+        _ => {}
+    }
+    if (2..=5).contains(&kind) {
+        let noise = turned.len() - 9;
+        turn_both(s, 3, &mut turned[noise..]);
+    }
+    turned
+}
+
+/// In a state answer only the pose turns, and a NIS does not.
+fn turned_result(s: &Signs, kind: u32, result: &[f64]) -> Vec<f64> {
+    let mut result = result.to_vec();
+    if kind == 6 {
+        turn_pose(s, &mut result);
+    }
+    result
+}
+
+/// Equal as document 01 has it: both zeros are one, and so is what is not a number.
+fn equal(x: &[f64], y: &[f64]) -> bool {
+    x.len() == y.len() && x.iter().zip(y).all(|(x, y)| x == y || x.is_nan() && y.is_nan())
+}
+
+/// How many calls of a log were made, and how many differ from the turned log's.
+fn compare_log(seed: u64, s: &Signs) -> (u64, u64) {
+    let log = log(&mut Numbers::new(seed), Manner::of(seed), LOG_CALLS);
+    let (mut run, mut turned_run) = (log.run.clone(), turned_filter(s, &log.run));
+    let mut differ = 0;
+    for (kind, numbers) in &log.calls {
+        let mut lent = Lent::new(*kind, &run, numbers);
+        let mut turned = Lent::new(*kind, &turned_run, &turned_call(s, *kind, numbers));
+        let codes = (lent.on_port(*kind), turned.on_port(*kind));
+        let same = codes.0 == codes.1
+            && equal(&turned_filter(s, &lent.run), &turned.run)
+            && equal(&turned_result(s, *kind, &lent.result), &turned.result);
+        differ += u64::from(!same);
+        (run, turned_run) = (lent.run, turned.run);
+    }
+    (log.calls.len() as u64, differ)
+}
+
+pub fn compare() -> u64 {
+    let mut wrong = 0;
+    for (axis, signs) in ["first", "second", "third"].iter().zip(&TURNS) {
+        let counts =
+            in_threads(LOGS, |seeds| seeds.map(|seed| compare_log(seed, signs)).fold((0, 0), |sum, one| (sum.0 + one.0, sum.1 + one.1)));
+        let (calls, differ) = counts.iter().fold((0, 0), |sum, one| (sum.0 + one.0, sum.1 + one.1));
+        println!("half turn about the {axis} axis: {LOGS} logs, {calls} calls, {differ} differ");
+        wrong += differ;
+    }
+    wrong
+}

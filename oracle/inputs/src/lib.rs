@@ -1,0 +1,10 @@
+//! Inputs for the comparison and the measurements, from fixed seeds: numbers, flights, logs of calls and call sheets.
+mod flight;
+mod log;
+mod numbers;
+mod sheet;
+
+pub use flight::Flight;
+pub use log::{log, start, Log, Manner};
+pub use numbers::{beside, Numbers};
+pub use sheet::sheet;

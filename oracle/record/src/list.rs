@@ -1,0 +1,160 @@
+//! A list of calls with the original's answers, and the count of these.
+use drifters_core::math::{Cholesky, Vec3};
+use drifters_eqf::linear::{
+    direction_output_matrix, position_output_matrix, transported_direction, transported_position, transported_velocity, velocity_output_matrix,
+};
+use original::{Answer, Call};
+
+/// The most calls and bytes of a sheet.
+const MOST_CALLS: usize = 255;
+const MOST_BYTES: usize = 65_532;
+
+/// The code of a NIS.
+const NIS: u64 = 7;
+
+/// What the runs that a call may write hold before it.
+pub const UNTOUCHED: f64 = 1.5;
+
+/// Above this the numbers of a filter only lead to more refusals of one kind.
+const MOST_NUMBER: f64 = 1e6;
+
+/// The digest of crates/replay/src/digest.rt.
+pub fn digest(numbers: &[f64]) -> u64 {
+    const M: u64 = 0x7fff_ffff;
+    let (mut a, mut b) = (0, 0);
+    for x in numbers {
+        let bits = bits_of(*x);
+        for half in [bits >> 32, bits & 0xffff_ffff] {
+            a = (a * 1_103_515_245 + half) % M;
+            b = (b * 1_566_083_941 + half) % M;
+        }
+    }
+    (a << 32) + b
+}
+
+pub fn bits_of(x: f64) -> u64 {
+    if x.is_nan() {
+        0x7ff8_0000_0000_0000
+    } else {
+        x.to_bits()
+    }
+}
+
+/// A stored answer: a code, the bits of the NIS, two digests.
+pub fn stored(answer: Answer, state: u64, filter: u64) -> Vec<u8> {
+    let (code, nis) = match answer {
+        Answer::Fine => (0, 0),
+        Answer::Nis(nis) => (NIS, bits_of(nis)),
+        Answer::Refused(n) => (u64::from(n), 0),
+    };
+    [code, nis, state, filter].iter().flat_map(|x| x.to_le_bytes()).collect()
+}
+
+pub struct List {
+    pub name: &'static str,
+    filter: Vec<f64>,
+    pub run: Vec<f64>,
+    calls: Vec<(u32, Vec<f64>)>,
+    bytes: usize,
+    pub answers: Vec<u8>,
+    pub tally: Tally,
+}
+
+impl List {
+    pub fn new(name: &'static str, filter: &[f64]) -> Self {
+        let run = filter.to_vec();
+        let bytes = 12 + 8 * filter.len();
+        Self { name, filter: run.clone(), run, calls: Vec::new(), bytes, answers: Vec::new(), tally: Tally::default() }
+    }
+
+    pub fn sheet(&self) -> Vec<u8> {
+        inputs::sheet(&self.filter, &self.calls)
+    }
+
+    fn has_room(&self, numbers: &[f64]) -> bool {
+        self.calls.len() < MOST_CALLS && self.bytes + 8 + 8 * numbers.len() <= MOST_BYTES
+    }
+
+    /// Adds a call, made on the filter that the one before it left.
+    pub fn add(&mut self, (kind, numbers): (u32, Vec<f64>)) -> Answer {
+        assert!(self.has_room(&numbers), "{}: too many calls", self.name);
+        let mut state = [UNTOUCHED; original::STATE];
+        let inflated = kind != 6 && raw_factor(kind, &self.run, &numbers);
+        let answer = original::call(kind, &mut self.run, &numbers, &mut state[..original::written_length(kind)]);
+        self.answers.extend(stored(answer, digest(&state), digest(&self.run)));
+        self.tally.count(kind, answer, inflated);
+        self.bytes += 8 + 8 * numbers.len();
+        self.calls.push((kind, numbers));
+        answer
+    }
+
+    /// Adds a call unless it would leave a filter of large numbers, on which little else would be accepted.
+    pub fn add_tame(&mut self, call: (u32, Vec<f64>)) {
+        let mut run = self.run.clone();
+        let mut state = [0.0; original::STATE];
+        original::call(call.0, &mut run, &call.1, &mut state[..original::written_length(call.0)]);
+        if run == self.run || run.iter().all(|x| x.abs() < MOST_NUMBER) {
+            self.add(call);
+        }
+    }
+}
+
+/// Whether the raw matrix of an update has a factor; false for a propagation.
+fn raw_factor(kind: u32, run: &[f64], numbers: &[f64]) -> bool {
+    let f = original::filter_of(run);
+    let (c, noise) = match Call::read(kind, numbers) {
+        Call::Position { antenna, noise } => (position_output_matrix(antenna, transported_position(&f.x)), noise),
+        Call::Velocity { antenna, omega, noise } => {
+            (velocity_output_matrix(antenna, transported_velocity(&f.x, omega), f.x.a() * omega), noise)
+        }
+        Call::Direction { measured, north, noise } => {
+            let transported: Vec3 = transported_direction(&f.x, measured.normalized());
+            (direction_output_matrix(north.normalized(), transported), noise)
+        }
+        Call::General { c, noise, .. } => (c, noise),
+        Call::Propagate { .. } | Call::State => return false,
+    };
+    Cholesky::new(&(c.matmul(&f.sigma).mul_transpose(&c) + noise)).is_some()
+}
+
+/// How often each kind gave each answer: accepted, 2, 3, 4 of the raw matrix, 5, and 4 of the inflated matrix.
+#[derive(Default)]
+pub struct Tally([[usize; 6]; 6]);
+
+const ANSWERS: [&str; 6] = ["accepted", "2", "3", "4 raw", "5", "4 inflated"];
+
+impl Tally {
+    fn count(&mut self, kind: u32, answer: Answer, raw_factor: bool) {
+        let column = match answer {
+            Answer::Refused(4) if raw_factor => 5,
+            Answer::Refused(n) => n as usize - 1,
+            _ => 0,
+        };
+        self.0[kind as usize - 1][column] += 1;
+    }
+
+    pub fn add(&mut self, more: &Self) {
+        for (row, more) in self.0.iter_mut().zip(&more.0) {
+            row.iter_mut().zip(more).for_each(|(n, m)| *n += m);
+        }
+    }
+
+    /// A line of the kinds, each with how often it gave each answer.
+    pub fn print(&self, name: &str) {
+        println!("{name:14} {:5} calls: {:?}", self.0.iter().flatten().sum::<usize>(), self.0);
+    }
+
+    /// Every kind gives each answer that it can.
+    pub fn expect_each_refusal(&self) {
+        for (kind, row) in (1..).zip(&self.0) {
+            let can = match kind {
+                1 => [true, true, true, false, true, false],
+                6 => [true, true, false, false, true, false],
+                _ => [true; 6],
+            };
+            for (i, answer) in ANSWERS.iter().enumerate() {
+                assert!(!can[i] || row[i] > 0, "no call of kind {kind} gives {answer}");
+            }
+        }
+    }
+}
