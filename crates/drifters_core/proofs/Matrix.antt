@@ -3,6 +3,7 @@ pub mod Tab
 pub mod Grid
 pub mod Elements
 pub mod Sums
+pub mod Skips
 pub mod Columns
 pub mod Place
 pub mod Block

@@ -12,14 +12,20 @@ ghost use Rattle.drifters_eqf.specs.Filter.{turnFits, refuse, new, navSt
 use crate::gcu::inflate_at;
 use crate::gcu::nis;
 use drifters_cholesky::math::cholesky::Cholesky3;
+use drifters_core::math::lent::add_scaled21;
+use drifters_core::math::lent::add21;
+use drifters_core::math::lent::matmul3x21;
 use drifters_core::math::lent::matmul21;
 use drifters_core::math::lent::mul_transpose21;
+use drifters_core::math::lent::scale21;
 use drifters_core::math::lent::set_column6;
 use drifters_core::math::lent::set_column21x6;
+use drifters_core::math::lent::sub21;
+use drifters_core::math::lent::symmetrize21;
+use drifters_core::math::lent::transpose21;
 use drifters_core::math::shapes::Mat3;
 use drifters_core::math::shapes::Mat3x21;
 use drifters_core::math::shapes::Mat6;
-use drifters_core::math::shapes::Mat18;
 use drifters_core::math::shapes::Mat21;
 use drifters_core::math::shapes::Mat21x3;
 use drifters_core::math::shapes::Mat21x6;
@@ -128,10 +134,11 @@ impl EqFilter {
         let x = self.x.compose(Symmetry::exp(step));
         let phi = transition(state_matrix(half, u, gravity), dt);
         let noise = process_noise(x, estimate, gravity, q);
-        let prior = self.sigma;
-        let mut carried = Mat21::zeros();
-        carry(&phi.data, &prior.data, &mut carried.data);
-        let sigma = carried.add(noise.scaled(abs(dt))).symmetrize();
+        let mut carried = [0.0; 441];
+        carry(&phi.data, &self.sigma.data, &mut carried);
+        add_scaled21(&mut carried, &noise.data, abs(dt));
+        symmetrize21(&mut carried);
+        let sigma = Mat21 { data: carried };
         Answered {
             answer: Answer::Fine,
             filter: EqFilter {
@@ -180,7 +187,9 @@ impl EqFilter {
         let gravity = self.gravity;
         let alpha = self.alpha;
         let y = Vector3::from_vec3(innovation);
-        let c_sigma = c.matmul(self.sigma);
+        let mut product = [0.0; 63];
+        matmul3x21(&c.data, &self.sigma.data, &mut product);
+        let c_sigma = Mat3x21 { data: product };
         let projected = c_sigma.mul_transpose(c);
         let raw = Cholesky3::new(projected.add(noise));
         if !raw.definite {
@@ -199,9 +208,11 @@ impl EqFilter {
             return refuse(TURN_REFUSAL, self);
         }
         let x = Symmetry::exp(step).compose(self.x);
-        let prior = self.sigma;
-        let corrected = joseph(&prior.data, gain, c, noise);
-        let sigma = reset(step, &corrected.data).symmetrize();
+        let corrected = joseph(&self.sigma.data, gain, c, noise);
+        let mut carried = [0.0; 441];
+        reset(step, &corrected.data, &mut carried);
+        symmetrize21(&mut carried);
+        let sigma = Mat21 { data: carried };
         Answered {
             answer: Answer::Nis(r),
             filter: EqFilter {
@@ -235,10 +246,15 @@ fn turn_fits(u: Algebra) -> bool
 fn transition(a: Mat21, dt: f64) -> Mat21
     ensures { λ r. ⌜ r .data ≡ transition (a .data) dt ⌝ }
 {
-    let a_dt = a.scaled(dt);
-    let mut square = Mat21::zeros();
-    matmul21(&a_dt.data, &a_dt.data, &mut square.data);
-    Mat21::identity().add(a_dt).add(square.scaled(0.5))
+    let mut a_dt = a.data;
+    scale21(&mut a_dt, dt);
+    let mut square = [0.0; 441];
+    matmul21(&a_dt, &a_dt, &mut square);
+    let one = Mat21::identity();
+    let mut phi = one.data;
+    add21(&mut phi, &a_dt);
+    add_scaled21(&mut phi, &square, 0.5);
+    Mat21 { data: phi }
 }
 
 // The process noise in normal coordinates: x is the new state of the observer, the estimate the old one.
@@ -246,7 +262,7 @@ fn process_noise(x: Symmetry, estimate: State, gravity: Vec3, q: ProcessNoise) -
     ensures { λ r. ⌜ r .data ≡ processNoise x estimate gravity q ⌝ }
 {
     let g = noise_map(x, estimate, gravity);
-    g.matmul(Mat18::from_diagonal(psd(q))).mul_transpose(g)
+    g.mul_diagonal(psd(q)).mul_transpose(g)
 }
 
 // The 21 by 18 matrix that maps the noise into normal coordinates.
@@ -359,27 +375,36 @@ fn psd(q: ProcessNoise) -> [f64; 18]
 fn joseph(sigma: &[f64; 441], gain: Mat21x3, c: Mat3x21, noise: Mat3) -> Mat21
     ensures { λ r. ⌜ r .data ≡ joseph 3 (now (sigma .entry)) (gain .data) (c .data) (noise .data) ⌝ }
 {
-    let ikc = Mat21::identity().sub(gain.matmul21(c));
-    let mut carried = Mat21::zeros();
-    carry(&ikc.data, sigma, &mut carried.data);
-    carried.add(gain.matmul3(noise).mul_transpose(gain))
+    let one = Mat21::identity();
+    let mut ikc = one.data;
+    let kc = gain.matmul21(c);
+    sub21(&mut ikc, &kc.data);
+    let mut carried = [0.0; 441];
+    carry(&ikc, sigma, &mut carried);
+    let spread = gain.matmul3(noise).mul_transpose(gain);
+    add21(&mut carried, &spread.data);
+    Mat21 { data: carried }
 }
 
-// The covariance carried through the reset I + ½ ad.
-fn reset(step: Algebra, sigma: &[f64; 441]) -> Mat21
-    ensures { λ r. ⌜ r .data ≡ resetSigma step (now (sigma .entry)) ⌝ }
+// The covariance carried through the reset I + ½ ad, into `out`.
+fn reset(step: Algebra, sigma: &[f64; 441], out: &mut [f64; 441])
+    ensures { λ _. ⌜ now (out .exit) ≡ resetSigma step (now (sigma .entry)) ⌝ }
 {
-    let m = Mat21::identity().add(step.ad().scaled(0.5));
-    let mut carried = Mat21::zeros();
-    carry(&m.data, sigma, &mut carried.data);
-    carried
+    let one = Mat21::identity();
+    let mut m = one.data;
+    let ad = step.ad();
+    add_scaled21(&mut m, &ad.data, 0.5);
+    carry(&m, sigma, out);
 }
 
-// The covariance carried by `m`, m Σ mᵀ, into `out`. The matrices are lent, so that none is copied.
+// The covariance carried by `m`, m Σ mᵀ, into `out`. The matrices are lent, so that none is copied. The second product is made as the
+// transpose of m (m Σ)ᵀ, which has the same bits, so that the zeros of m, which has many, are skipped in both.
 fn carry(m: &[f64; 441], sigma: &[f64; 441], out: &mut [f64; 441])
     ensures { λ _. ⌜ now (out .exit) ≡ mulTranspose 21 21 21 (matmul 21 21 21 (now (m .entry)) (now (sigma .entry))) (now (m .entry)) ⌝ }
 {
     let mut product = [0.0; 441];
     matmul21(m, sigma, &mut product);
-    mul_transpose21(&product, m, out);
+    let mut transposed = [0.0; 441];
+    mul_transpose21(m, &product, &mut transposed);
+    transpose21(&transposed, out);
 }

@@ -8,6 +8,7 @@ ghost use Rattle.drifters_core.specs.Quat.{fromRotationVector, toDcm};
 ghost use Rattle.drifters_symmetry.specs.Lie.{fromArraySe3, integratedAdjoint, leftJacobian};
 ghost use Rattle.drifters_eqf.specs.Gcu.{beta};
 use drifters_cholesky::math::cholesky::Cholesky3;
+use drifters_core::math::lent::matmul3x21;
 use drifters_core::math::lent::matmul21;
 use drifters_core::math::lent::mul_transpose21;
 use drifters_core::math::lent::symmetrize21;
@@ -98,9 +99,7 @@ pub extern "C" fn drifters_matmul_21_21_21(a: &[f64; 441], b: &[f64; 441], out: 
 pub extern "C" fn drifters_matmul_3_21_21(a: &[f64; 63], b: &[f64; 441], out: &mut [f64; 63])
     ensures { λ _. ⌜ now (out .exit) ≡ matmul 3 21 21 (now (a .entry)) (now (b .entry)) ⌝ }
 {
-    let p = Mat3x21 { data: *a }.matmul(Mat21 { data: *b });
-    let d = p.data;
-    *out = d;
+    matmul3x21(a, b, out);
 }
 
 #[no_mangle]

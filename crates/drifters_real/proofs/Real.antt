@@ -14,6 +14,7 @@ pub mod SumGaps
 pub mod LimbProducts
 pub mod SumLoop
 pub mod Rounding
+pub mod Zeros
 pub mod Angle
 pub mod AngleSquare
 pub mod Error

@@ -3,3 +3,5 @@ pub mod Lie
 pub mod Group
 pub mod Lift
 pub mod Linear
+-- What only private contracts cite.
+pub mod SeriesBlocks

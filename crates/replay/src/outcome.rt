@@ -9,7 +9,7 @@ use drifters_eqf::filter::Answer;
 pub(crate) const ANSWER_BYTES: usize = 32;
 
 // The code of a NIS, which no refusal has.
-const NIS: u64 = 7;
+const NIS: u64 = 256;
 
 // What the runs that a call may write hold before it: a refusal leaves it there.
 pub(crate) const UNTOUCHED: f64 = 1.5;
@@ -20,7 +20,7 @@ pub(crate) struct Outcome {
     pub(crate) filter: u64,
 }
 
-// 0 for ok, 7 for a NIS, else the number of the refusal.
+// 0 for ok, 256 for a NIS, else the number of the refusal.
 fn code(answer: Answer) -> u64 {
     match answer {
         Answer::Fine => 0,

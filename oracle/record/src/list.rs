@@ -10,7 +10,7 @@ const MOST_CALLS: usize = 255;
 const MOST_BYTES: usize = 65_532;
 
 /// The code of a NIS.
-const NIS: u64 = 7;
+const NIS: u64 = 256;
 
 /// What the runs that a call may write hold before it.
 pub const UNTOUCHED: f64 = 1.5;

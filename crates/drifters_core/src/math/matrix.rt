@@ -2,6 +2,7 @@
 // the factorisation is in drifters_cholesky.
 ghost use mathlib.Core.Path.{_≡_};
 ghost use Prim.Native.Nat.{_+_, _*_, _≤_};
+ghost use mathlib.Core.Bool.{true};
 ghost use lib.Dec.{leb};
 ghost use lib.ListN.{length, getD};
 ghost use lib.Ieee.{nan};
@@ -44,7 +45,7 @@ fn copy_into(src: &[f64], out: &mut [f64])
 }
 
 // x * b[s + j] added to row[j], for each j.
-fn add_scaled(row: &mut [f64], x: f64, b: &[f64], s: usize)
+pub(crate) fn add_scaled(row: &mut [f64], x: f64, b: &[f64], s: usize)
     requires { ⌜ s + length (now row) ≤ length (now b) ⌝ }
     ensures { λ _. ⌜ now (row .exit) ≡ tab (length (now (row .entry))) (λ j. getD (now (row .entry)) j nan ⊕ x ⊗ getD (now (b .entry)) (s + j) nan) ⌝ }
 {
@@ -124,6 +125,18 @@ pub(crate) fn mul_transpose_into(
 {
     transpose_into(b, t, d, c);
     product_into(false, a, t, row, out, r, c, d);
+}
+
+// The r by c matrix `a` times the diagonal matrix of `d`, into `out`, where both are finite: each column times its number.
+pub(crate) fn scale_columns_into(a: &[f64], d: &[f64], out: &mut [f64], r: usize, c: usize)
+    requires { ⌜ (length (now a) ≡ r * c) × ((length (now d) ≡ c) × ((length (now out) ≡ r * c) × ((allFinite (now a) ≡ true) × (allFinite (now d) ≡ true)))) ⌝ }
+    ensures { λ _. ⌜ now (out .exit) ≡ matmul r c c (now (a .entry)) (fromDiagonal c (now (d .entry))) ⌝ }
+{
+    for i in 0..r {
+        for j in 0..c {
+            out[i * c + j] = 0.0 + a[i * c + j] * d[j];
+        }
+    }
 }
 
 // Each of the n entries times s.

@@ -3,9 +3,6 @@
 ghost use mathlib.Core.Path.{_≡_};
 ghost use Rattle.drifters_core.specs.Matrix.{zeros, transpose, matmul, mulTranspose, scaled, setBlock, block, allFinite, amax, fromDiagonal, identity, diagonal, symmetrize, addMatrix, subMatrix, negMatrix, mulMat3Vec3};
 ghost use Rattle.drifters_core.specs.Vec3.{toArray};
-use crate::math::lent::matmul21;
-use crate::math::lent::mul_transpose21;
-use crate::math::lent::symmetrize21;
 use crate::math::matrix::add_in;
 use crate::math::matrix::all_finite;
 use crate::math::matrix::amax_of;
@@ -15,6 +12,7 @@ use crate::math::matrix::from_diagonal_in;
 use crate::math::matrix::matmul_into;
 use crate::math::matrix::mul_transpose_into;
 use crate::math::matrix::neg_in;
+use crate::math::matrix::scale_columns_into;
 use crate::math::matrix::scale_in;
 use crate::math::matrix::set_block_in;
 use crate::math::matrix::sub_in;
@@ -242,30 +240,6 @@ impl Mat21 {
         Mat21 { data }
     }
 
-    pub fn matmul(self, rhs: Mat21) -> Mat21
-        ensures { λ r. ⌜ r .data ≡ matmul 21 21 21 (self .data) (rhs .data) ⌝ }
-    {
-        let mut data = [0.0; 441];
-        matmul21(&self.data, &rhs.data, &mut data);
-        Mat21 { data }
-    }
-
-    pub fn mul_transpose(self, rhs: Mat21) -> Mat21
-        ensures { λ r. ⌜ r .data ≡ mulTranspose 21 21 21 (self .data) (rhs .data) ⌝ }
-    {
-        let mut data = [0.0; 441];
-        mul_transpose21(&self.data, &rhs.data, &mut data);
-        Mat21 { data }
-    }
-
-    pub fn scaled(self, s: f64) -> Mat21
-        ensures { λ r. ⌜ r .data ≡ scaled 441 (self .data) s ⌝ }
-    {
-        let mut data = self.data;
-        scale_in(&mut data, s, 441);
-        Mat21 { data }
-    }
-
     // `src` in the block at (r0, c0); the matrix as it is where the block does not fit.
     pub fn set_block(self, r0: usize, c0: usize, src: Mat3) -> Mat21
         ensures { λ r. ⌜ r .data ≡ setBlock 21 21 3 3 r0 c0 (self .data) (src .data) ⌝ }
@@ -312,30 +286,6 @@ impl Mat21 {
         diagonal_into(&self.data, &mut out, 21);
         out
     }
-
-    pub fn symmetrize(self) -> Mat21
-        ensures { λ r. ⌜ r .data ≡ symmetrize 21 (self .data) ⌝ }
-    {
-        let mut data = self.data;
-        symmetrize21(&mut data);
-        Mat21 { data }
-    }
-
-    pub fn add(self, rhs: Mat21) -> Mat21
-        ensures { λ r. ⌜ r .data ≡ addMatrix 441 (self .data) (rhs .data) ⌝ }
-    {
-        let mut data = self.data;
-        add_in(&mut data, &rhs.data, 441);
-        Mat21 { data }
-    }
-
-    pub fn sub(self, rhs: Mat21) -> Mat21
-        ensures { λ r. ⌜ r .data ≡ subMatrix 441 (self .data) (rhs .data) ⌝ }
-    {
-        let mut data = self.data;
-        sub_in(&mut data, &rhs.data, 441);
-        Mat21 { data }
-    }
 }
 
 impl Mat3x21 {
@@ -352,15 +302,6 @@ impl Mat3x21 {
         let mut data = [0.0; 63];
         transpose_into(&self.data, &mut data, 3, 21);
         Mat21x3 { data }
-    }
-
-    pub fn matmul(self, rhs: Mat21) -> Mat3x21
-        ensures { λ r. ⌜ r .data ≡ matmul 3 21 21 (self .data) (rhs .data) ⌝ }
-    {
-        let mut row = [0.0; 21];
-        let mut data = [0.0; 63];
-        matmul_into(&self.data, &rhs.data, &mut row, &mut data, 3, 21, 21);
-        Mat3x21 { data }
     }
 
     pub fn mul_transpose(self, rhs: Mat3x21) -> Mat3
@@ -475,22 +416,40 @@ impl Mat21x18 {
         Mat21x18 { data }
     }
 
+    // The matrix times the diagonal matrix of `d`.
+    pub fn mul_diagonal(self, d: [f64; 18]) -> Mat21x18
+        ensures { λ r. ⌜ r .data ≡ matmul 21 18 18 (self .data) (fromDiagonal 18 d) ⌝ }
+    {
+        if !(all_finite(&self.data) & all_finite(&d)) {
+            return self.matmul(Mat18::from_diagonal(d));
+        }
+        let mut data = [0.0; 378];
+        scale_columns_into(&self.data, &d, &mut data, 21, 18);
+        Mat21x18 { data }
+    }
+
+    // Where `rhs` is finite, the terms of zeros are skipped, as in `mul_transpose21`.
     pub fn mul_transpose(self, rhs: Mat21x18) -> Mat21
         ensures { λ r. ⌜ r .data ≡ mulTranspose 21 18 21 (self .data) (rhs .data) ⌝ }
     {
         let mut t = [0.0; 378];
         let mut row = [0.0; 21];
         let mut data = [0.0; 441];
-        mul_transpose_into(
-            &self.data,
-            &rhs.data,
-            &mut t,
-            &mut row,
-            &mut data,
-            21,
-            18,
-            21,
-        );
+        if all_finite(&rhs.data) {
+            transpose_into(&rhs.data, &mut t, 21, 18);
+            matmul_into(&self.data, &t, &mut row, &mut data, 21, 18, 21);
+        } else {
+            mul_transpose_into(
+                &self.data,
+                &rhs.data,
+                &mut t,
+                &mut row,
+                &mut data,
+                21,
+                18,
+                21,
+            );
+        }
         Mat21 { data }
     }
 }

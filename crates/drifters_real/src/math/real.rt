@@ -279,5 +279,5 @@ pub fn clamp(x: f64, low: f64, high: f64) -> f64
 pub fn is_finite(x: f64) -> bool
     ensures { λ r. ⌜ r ≡ isFinite x ⌝ }
 {
-    -1.0 / 0.0 < x && x < 1.0 / 0.0
+    x - x == 0.0
 }

@@ -7,12 +7,10 @@ returns : tie.Need-returns
 unfolding processNoise
 returns c =
     let m = c .before in
-    let d = m .before in
-    let p = d .before in
+    let p = m .before in
     let g = p .before .noise-map .ensures in
-    let diagonal = rw (p .psd .ensures) at (d .from-diagonal .ensures) in
-    let product = rw (g, diagonal) at (m .matmul .ensures) in
+    let product = rw (g, p .psd .ensures) at (m .mul-diagonal .ensures) in
     rw (product, g) at (c .mul-transpose .ensures)
 
 pub process-noise-spec : {M : Type 1} → statement M
-process-noise-spec = tie.close (tie.spec (λ c κs. tt) (λ c κs. tt) (λ c κs. tt) (λ c κs. tt) (λ c κs. tt) returns)
+process-noise-spec = tie.close (tie.spec (λ c κs. tt) (λ c κs. tt) (λ c κs. tt) (λ c κs. tt) returns)

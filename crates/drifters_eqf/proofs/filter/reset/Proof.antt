@@ -6,11 +6,10 @@ use Rattle.drifters_eqf.proofs.filter.reset.Tie as tie
 returns : tie.Need-returns
 unfolding resetSigma
 returns c =
-    let a = c .before .before .before .before .before in
-    let s = a .before in
-    let d = s .before in
-    let reset = rw (d .before .identity .ensures, s .scaled .ensures, d .ad .ensures) at (a .add .ensures) in
+    let s = c .before .before .before in
+    let d = s .before .before .before .before in
+    let reset = rw (d .before .before .identity .ensures, d .ad .ensures) at (s .add-scaled21 .ensures) in
     rw reset at (c .carry .ensures)
 
 pub reset-spec : {M : Type 1} → statement M
-reset-spec = tie.close (tie.spec (λ c κs. tt) (λ c κs. tt) (λ c κs. tt) (λ c κs. tt) (λ c κs. tt) (λ c κs. tt) returns)
+reset-spec = tie.close (tie.spec (λ c κs. tt) (λ c κs. tt) (λ c κs. tt) (λ c κs. tt) returns)

@@ -23,13 +23,13 @@ use Rattle.drifters_eqf.proofs.filter.EqFilter.propagate.Tie as tie
 
 -- the filter, the input and the time of the call
 abbrev filter : tie.After-scaled → EqFilter
-filter s = s .before .before .before .before .before .args .self
+filter s = s .before .before .before .before .before .before .args .t1
 
 abbrev input : tie.After-scaled → Input
-input s = s .before .before .before .before .before .args .u
+input s = s .before .before .before .before .before .before .args .u
 
 abbrev time : tie.After-scaled → Float
-time s = s .before .before .before .before .before .args .dt
+time s = s .before .before .before .before .before .before .args .dt
 
 -- the algebra elements of the half step and of the full one
 abbrev half : tie.After-scaled → Algebra
@@ -62,7 +62,7 @@ half-true e = sym (half-turn (e .before)) ∙ not-false _ (e .if1 .left)
 
 -- the place of the half step, from that after the midpoint
 abbrev first : tie.After-compose → tie.After-scaled
-first m = m .before .before .before .before
+first m = m .before .before .before .before .before
 
 midpoint-is : (m : tie.After-compose) → m .compose .result ≡ midpoint (filter (first m)) (input (first m)) (time (first m))
 unfolding midpoint
@@ -87,43 +87,42 @@ unfolding propagate
 returns-2 c =
     let e = c .before in
     let t = e .before in
-    rw (half-true (t .before .before .before .before .before .before .before), sym (full-turn t) ∙ not-true _ (e .if2 .taken)) (c .refuse2 .ensures)
+    rw (half-true (t .before .before .before .before .before .before .before .before), sym (full-turn t) ∙ not-true _ (e .if2 .taken)) (c .refuse2 .ensures)
 
 -- ---- the filter after propagation, where that of the full step fits
 
 -- from what the calls that make it ensure
 propagated-is :
     (f : EqFilter) (u : Input) (dt : Float) (q : ProcessNoise)
-    {estimate : State} {mid m x : Symmetry} {step : Algebra} {d : Float} {a phi noise t n s z : List Float}
+    {estimate : State} {mid m x : Symmetry} {step : Algebra} {d : Float} {a phi noise t s z : List Float}
     → estimate ≡ navState f → mid ≡ midpoint f u dt → step ≡ fullStep f u dt → m ≡ exp step → x ≡ compose (f .x) m
     → a ≡ stateMatrix mid u (f .gravity) → phi ≡ transition a dt → noise ≡ processNoise x estimate (f .gravity) q
     → t ≡ mulTranspose 21 21 21 (matmul 21 21 21 phi (f .sigma .«data»)) phi
-    → d ≡ abs dt → n ≡ scaled 441 noise d → s ≡ addMatrix 441 t n → z ≡ symmetrize 21 s
+    → d ≡ abs dt → s ≡ addMatrix 441 t (scaled 441 noise d) → z ≡ symmetrize 21 s
     → record { x = x; sigma = record { «data» = z }; gravity = f .gravity; alpha = f .alpha } ≡ propagated f u dt q
 unfolding propagated propagatedSigma
-propagated-is f u dt q he hh hu hm hx ha hphi hq ht hd hn hs hz = rw (hz, hs, hn, hd, ht, hq, hphi, ha, hx, hm, hu, hh, he)
+propagated-is f u dt q he hh hu hm hx ha hphi hq ht hd hs hz = rw (hz, hs, hd, ht, hq, hphi, ha, hx, hm, hu, hh, he)
 
 returns-3 : tie.Need-returns-3
 unfolding propagate
 returns-3 c =
-    let s = c .before in
-    let n = s .before in
-    let d = n .before in
-    let t = d .before in
-    let q = t .before .before .before .before .before .before .before .before in
+    let s = c .before .before in
+    let d = s .before in
+    let t = d .before .before .before .before in
+    let q = t .before .before .before .before .before .before in
     let phi = q .before in
     let a = phi .before in
     let x = a .before in
-    let e2 = x .before .before in
+    let e2 = x .before .before .before in
     let f = e2 .before .before in
     let m = f .before .before .before .before in
     let z = first m in
     let after =
-    propagated-is (filter z) (input z) (time z) (z .before .before .before .before .before .args .q)
+    propagated-is (filter z) (input z) (time z) (z .before .before .before .before .before .before .args .q)
     (estimate-is z) (midpoint-is m) (full-is f) (x .before .exp2 .ensures) (x .compose2 .ensures)
     (a .state-matrix .ensures) (phi .transition .ensures) (q .process-noise .ensures) (t .carry .ensures)
-    (d .abs .ensures) (n .scaled3 .ensures) (s .add .ensures) (c .symmetrize .ensures) in
-    rw (half-true (m .before .before), sym (full-turn (e2 .before)) ∙ not-false _ (e2 .if2 .left)) (λ i. record { answer = Fine; filter = after i })
+    (d .abs .ensures) (s .add-scaled21 .ensures) (c .symmetrize21 .ensures) in
+    rw (half-true (m .before .before .before), sym (full-turn (e2 .before)) ∙ not-false _ (e2 .if2 .left)) (λ i. record { answer = Fine; filter = after i })
 
 pub propagate-spec : {M : Type 1} → statement M
 propagate-spec =
@@ -145,8 +144,6 @@ propagate-spec =
     (λ c κs. tt)
     (λ c κs. tt)
     returns-2
-    (λ c κs. tt)
-    (λ c κs. tt)
     (λ c κs. tt)
     (λ c κs. tt)
     (λ c κs. tt)

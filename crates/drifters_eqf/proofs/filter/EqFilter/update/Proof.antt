@@ -21,27 +21,27 @@ use Rattle.drifters_eqf.proofs.filter.EqFilter.update.Tie as tie
 
 -- the filter, the output matrix, the innovation and the noise of the call
 abbrev filter : tie.After-new → EqFilter
-filter n = n .before .before .before .before .before .before .args .self
+filter n = n .before .before .before .before .before .before .before .before .before .before .before .args .t1
 
 abbrev output : tie.After-new → List Float
-output n = n .before .before .before .before .before .before .args .c .«data»
+output n = n .before .before .before .before .before .before .before .before .before .before .before .args .t2 .«data»
 
 abbrev innovation : tie.After-new → List Float
-innovation n = toArray (n .before .before .before .before .before .before .args .innovation)
+innovation n = toArray (n .before .before .before .before .before .before .before .before .before .before .before .args .innovation)
 
 abbrev noise : tie.After-new → List Float
-noise n = n .before .before .before .before .before .before .args .noise .«data»
+noise n = n .before .before .before .before .before .before .before .before .before .before .before .args .noise .«data»
 
 -- the factor of the raw matrix
 abbrev raw : tie.After-new → Factor
 raw n = rawFactor 3 (filter n) (output n) (noise n)
 
-innovation-is : (n : tie.After-new) → n .before .before .before .before .from-vec3 .result .«data» ≡ innovation n
-innovation-is n = n .before .before .before .before .from-vec3 .ensures
+innovation-is : (n : tie.After-new) → n .before .before .before .before .before .before .before .before .before .from-vec3 .result .«data» ≡ innovation n
+innovation-is n = n .before .before .before .before .before .before .before .before .before .from-vec3 .ensures
 
 projected-is : (n : tie.After-new) → n .before .before .mul-transpose .result .«data» ≡ projected 3 (filter n) (output n)
 unfolding projected
-projected-is n = rw (n .before .before .before .matmul .ensures) at (n .before .before .mul-transpose .ensures)
+projected-is n = rw (n .before .before .before .matmul3x21 .ensures) at (n .before .before .mul-transpose .ensures)
 
 raw-is : (n : tie.After-new) → cholesky 3 (n .before .add .result .«data») ≡ raw n
 unfolding rawFactor
@@ -112,7 +112,7 @@ gain-is t =
     let n = first m in
     let h = ap definite (inflated-is m) ∙ inflated-true e in
     let entries = factored-entries _ (m .new2 .ensures) h ∙ ap entriesOf (inflated-is m) in
-    let solved = t .before .solve .ensures ∙ (λ i. solve 3 21 (entries i) (n .before .before .before .matmul .ensures i)) in
+    let solved = t .before .solve .ensures ∙ (λ i. solve 3 21 (entries i) (n .before .before .before .matmul3x21 .ensures i)) in
     t .transpose .ensures ∙ ap (transpose 3 21) solved
 
 -- the place after the raw factorisation, from that after the correction
@@ -159,10 +159,10 @@ updated-is f k c y noise hk hu hm hx hj hs ht = rw (ht, hs, hj, hx, hm, hu, hk)
 returns-4 : tie.Need-returns-4
 unfolding update
 returns-4 c =
-    let s = c .before in
-    let j = s .before .before .before in
-    let x = j .before .before .before .before in
-    let e3 = x .before .before in
+    let s = c .before .before in
+    let j = s .before .before .before .before in
+    let x = j .before .before .before in
+    let e3 = x .before .before .before in
     let a = e3 .before .before in
     let t = a .before .before .before in
     let e2 = t .before .before in
@@ -170,7 +170,7 @@ returns-4 c =
     let n = start a in
     let after =
     updated-is (filter n) (gained n) (output n) (innovation n) (noise n)
-    (gain-is t) (step-is a) (x .before .exp .ensures) (x .compose .ensures) (j .joseph .ensures) (s .reset .ensures) (c .symmetrize .ensures) in
+    (gain-is t) (step-is a) (x .before .before .exp .ensures) (x .compose .ensures) (j .joseph .ensures) (s .reset .ensures) (c .symmetrize21 .ensures) in
     rw (raw-true (r .before), inflated-true e2, turn-true e3) (λ i. record { answer = Nis (nis-is r i); filter = after i })
 
 pub update-spec : {M : Type 1} → statement M
