@@ -2,7 +2,7 @@
 // drifters_eqf_c exports what a product calls.
 ghost use mathlib.Core.Path.{_≡_};
 ghost use Rattle.drifters_core.specs.Vec3.{fromArray, toArray, normalized, amaxVec3};
-ghost use Rattle.drifters_core.specs.Matrix.{matmul, mulTranspose, symmetrize, amax, solve};
+ghost use Rattle.drifters_core.specs.Matrix.{matmul, mulTranspose, fromDiagonal, symmetrize, amax, solve};
 ghost use Rattle.drifters_cholesky.specs.Cholesky.{factored3};
 ghost use Rattle.drifters_core.specs.Quat.{fromRotationVector, toDcm};
 ghost use Rattle.drifters_symmetry.specs.Lie.{fromArraySe3, integratedAdjoint, leftJacobian};
@@ -165,6 +165,17 @@ pub extern "C" fn drifters_mul_transpose_21_3_21(a: &[f64; 63], b: &[f64; 63], o
     let p = Mat21x3 { data: *a }.mul_transpose(Mat21x3 { data: *b });
     let d = p.data;
     *out = d;
+}
+
+// The 21 by 18 matrix `a` times the diagonal matrix of `d`.
+#[no_mangle]
+pub extern "C" fn drifters_mul_diagonal_21_18(a: &[f64; 378], d: &[f64; 18], out: &mut [f64; 378])
+    ensures { λ _. ⌜ now (out .exit) ≡ matmul 21 18 18 (now (a .entry)) (fromDiagonal 18 (now (d .entry))) ⌝ }
+{
+    let numbers = *d;
+    let p = Mat21x18 { data: *a }.mul_diagonal(numbers);
+    let m = p.data;
+    *out = m;
 }
 
 #[no_mangle]

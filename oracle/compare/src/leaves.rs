@@ -15,6 +15,7 @@ extern "C" {
     fn drifters_normalized(v: &[f64; 3], out: &mut [f64; 3]);
     fn drifters_amax(v: &[f64; 3]) -> f64;
     fn drifters_rotation(phi: &[f64; 3], q: &mut [f64; 4], dcm: &mut [f64; 9]);
+    fn drifters_mul_diagonal_21_18(a: &[f64; 378], d: &[f64; 18], out: &mut [f64; 378]);
     fn drifters_symmetrize21(m: &mut Flat21);
     fn drifters_amax21(m: &Flat21) -> f64;
     fn drifters_cholesky3(a: &[f64; 9], lower: &mut [f64; 9]) -> bool;
@@ -59,6 +60,16 @@ fn leaf(name: &str, cases: u64, agrees: impl Fn(&mut Numbers, bool) -> bool + Sy
     wrong
 }
 
+/// The entries of a matrix; of a damaged one, half the time, just one that is not finite, which may meet a zero of the other factor.
+fn entries<const N: usize>(n: &mut Numbers, damaged: bool) -> [f64; N] {
+    if !damaged || n.one_in(2) {
+        return n.array(damaged);
+    }
+    let mut m = n.array(false);
+    m[n.below(N)] = n.one_of(&[f64::INFINITY, f64::NEG_INFINITY, f64::NAN]);
+    m
+}
+
 /// Compares a product of the port, at its shape, with the original's.
 macro_rules! products {
     ($($name:literal, $port:ident, $method:ident, $r:literal x $c:literal, $r2:literal x $c2:literal, $cells:literal;)*) => {
@@ -69,7 +80,7 @@ macro_rules! products {
         fn products() -> u64 {
             let mut wrong = 0;
             $(wrong += leaf($name, 40_000, |n, damaged| {
-                let (a, b) = (n.array(damaged), n.array(damaged));
+                let (a, b) = (entries(n, damaged), entries(n, damaged));
                 let mut out = [0.0; $cells];
                 // SAFETY: the port's function takes every number, and writes only `out`.
                 unsafe { $port(&a, &b, &mut out) };
@@ -181,6 +192,13 @@ pub fn compare() -> u64 {
         all_same(&q, &original.to_array()) && all_same(&dcm, original.to_dcm().data.as_flattened())
     });
     wrong += products();
+    wrong += leaf("mul by a diagonal 21x18", 40_000, |n, damaged| {
+        let (a, d) = (entries(n, damaged), entries(n, damaged));
+        let mut out = [0.0; 378];
+        unsafe { drifters_mul_diagonal_21_18(&a, &d, &mut out) };
+        let original = rows::<21, 18>(&a).matmul(&Matrix::<18, 18>::from_diagonal(&d));
+        all_same(&out, original.data.as_flattened())
+    });
     wrong += leaf("Matrix::symmetrize", 100_000, |n, damaged| {
         let m: Flat21 = n.array(damaged);
         let mut original: Mat21 = rows(&m);
