@@ -8,11 +8,11 @@ use lib.Dec.{ltb}
 use lib.ListN.{length, take, replicate, length-append}
 use lib.Seq.{take-at}
 use lib.Ieee.{binary64, toBits}
-use Rattle.drifters_eqf.specs.Entry.{kindNumber}
+use Rattle.drifters_entry.specs.Entry.{kindNumber}
 use Rattle.drifters_eqf.specs.declared.filter.Answer.{Answer}
 use Rattle.drifters_eqf.specs.declared.filter.Answer.the-variants.{Nis, Fine, Refused}
-use Rattle.drifters_eqf.specs.declared.kind.Kind.{Kind}
-use Rattle.drifters_eqf.specs.declared.kind.Kind.the-variants.{Propagate, Position, Velocity, Direction, General, State}
+use Rattle.drifters_entry.specs.declared.kind.Kind.{Kind}
+use Rattle.drifters_entry.specs.declared.kind.Kind.the-variants.{Propagate, Position, Velocity, Direction, General, State}
 use Rattle.call_sheet.specs.declared.text.Text.{Text}
 use Rattle.call_sheet.specs.Bytes.{digit, digits, decimal}
 use Rattle.call_sheet.specs.Text.{answerText}

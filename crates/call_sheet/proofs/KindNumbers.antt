@@ -1,8 +1,8 @@
 -- Every kind of call is found by its number. Assumes nothing.
 use mathlib.Core.Path.{_≡_, refl, ap}
-use Rattle.drifters_eqf.specs.Entry.{kindNumber}
-use Rattle.drifters_eqf.specs.declared.kind.Kind.{Kind}
-use Rattle.drifters_eqf.specs.declared.kind.Kind.the-variants.{Propagate, Position, Velocity, Direction, General, State}
+use Rattle.drifters_entry.specs.Entry.{kindNumber}
+use Rattle.drifters_entry.specs.declared.kind.Kind.{Kind}
+use Rattle.drifters_entry.specs.declared.kind.Kind.the-variants.{Propagate, Position, Velocity, Direction, General, State}
 use Rattle.call_sheet.specs.Sheet.{findKind, KindsFound, foundKind, kindOf}
 
 pub kindsFound : KindsFound

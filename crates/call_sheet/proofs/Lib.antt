@@ -4,7 +4,6 @@ pub mod Placed
 pub mod Digits
 pub mod SheetLayout
 pub mod Held
-pub mod Refusals
 pub mod Lines
 pub mod TextLength
 pub mod Readings

@@ -1,17 +1,17 @@
 -- The laws of lines and of calls in lent runs. Assumes nothing.
 use Prim.Native.Nat.{ℕ, _+_, _*_, _≤_, _<_}
 use mathlib.Core.Path.{_≡_, ap, _∙_}
-use mathlib.Core.List.{List, [], _∷_}
+use mathlib.Core.List.{List, [], _∷_, map}
 use native.Mathlib.Numerals.{add-one}
 use native.Mathlib.Omega.{arith}
 use lib.ListN.{length, getD, take, drop, length-append}
 use lib.Seq.{drop-cons, drop-drop}
 use lib.Ieee.{Float}
-use Rattle.drifters_eqf.specs.Entry.{callLength, writtenLength}
-use Rattle.drifters_eqf.specs.Log.{outcome}
+use Rattle.drifters_entry.specs.Entry.{callLength, writtenLength}
+use Rattle.drifters_entry.specs.Log.{outcomeOn, entriesFrom}
 use Rattle.drifters_eqf.specs.declared.filter.Answer.{Answer}
-use Rattle.drifters_eqf.specs.declared.kind.Kind.{Kind}
-use Rattle.drifters_eqf.specs.declared.kind.Kind.the-variants.{Propagate, Position, Velocity, Direction, General, State}
+use Rattle.drifters_entry.specs.declared.kind.Kind.{Kind}
+use Rattle.drifters_entry.specs.declared.kind.Kind.the-variants.{Propagate, Position, Velocity, Direction, General, State}
 use Rattle.call_sheet.specs.Sheet.{SheetCall, sheetCall, kindOf, callsIn, bitsIn}
 use Rattle.call_sheet.specs.Text.{callOf, lineText, linesText}
 use Rattle.call_sheet.proofs.Digits.{decimal-short, kind-digit, answer-short}
@@ -22,14 +22,18 @@ pub line-short : (i : ℕ) (kind : Kind) (a : Answer) → length (lineText i kin
 unfolding lineText
 line-short i kind a = simp length-append (omega (arith, decimal-short i, kind-digit kind, answer-short a))
 
-pub lines-short : (i : ℕ) (run : List Float) (cs : List SheetCall) → length (linesText i run cs) ≤ 23 * length cs
-unfolding linesText
+-- the lines of the calls of a sheet, made on a filter's run
+abbrev pub linesOn : ℕ → List Float → List SheetCall → List ℕ
+linesOn i run cs = linesText i (entriesFrom run (map callOf cs))
+
+pub lines-short : (i : ℕ) (run : List Float) (cs : List SheetCall) → length (linesOn i run cs) ≤ 23 * length cs
+unfolding linesText entriesFrom
 lines-short i run [] = omega arith
 lines-short i run (c ∷ cs) =
-    let o = outcome run (callOf c) in
+    let o = outcomeOn run (callOf c) in
     let one = line-short i (c .kind) (o .answer) in
     let rest = lines-short (i + 1) (o .run) cs in
-    omega (arith, length-append (lineText i (c .kind) (o .answer)) (linesText (i + 1) (o .run) cs))
+    omega (arith, length-append (lineText i (c .kind) (o .answer)) (linesOn (i + 1) (o .run) cs))
 
 -- a state has the most numbers that are written
 pub written-short : (kind : Kind) → writtenLength kind ≤ 33

@@ -1,11 +1,13 @@
 -- The readings of the sheet's layout and text, by computation. Assumes nothing.
 use mathlib.Core.Path.{refl}
 use lib.Ieee.{ofBits, toBits}
+use Rattle.drifters_entry.specs.Log.{entriesFrom}
 use Rattle.call_sheet.specs.Bytes.{digits, decimal}
 use Rattle.call_sheet.specs.Sheet.{findKind, callsAt, headerFits, readSheet}
 use Rattle.call_sheet.specs.Text.{numbersOf, lineText, linesText, sheetText}
 use Rattle.call_sheet.specs.Readings.{readings, Readings}
+use Rattle.drifters_real.proofs.Reading.{asStated}
 
 pub textReadings : Readings
-unfolding readings digits decimal findKind callsAt headerFits readSheet numbersOf lineText linesText sheetText ofBits toBits
-textReadings = refl
+unfolding readings digits decimal findKind callsAt headerFits readSheet numbersOf lineText linesText entriesFrom sheetText ofBits toBits
+textReadings = asStated readings refl

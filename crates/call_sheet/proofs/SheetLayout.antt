@@ -12,13 +12,13 @@ use borrow.Author.Tests.{eq-eqb, le-leb, eqb-true, leb-true}
 use lib.Dec.{eqb, leb}
 use lib.ListN.{length, take, drop, length-append}
 use lib.Seq.{take-at, drop-at}
-use Rattle.drifters_core.specs.Matrix.{tab}
-use Rattle.drifters_core.proofs.Matrix.Tab.{length-tab, tab-add}
+use Rattle.drifters_matrix.specs.Matrix.{tab}
+use Rattle.drifters_matrix.proofs.Matrix.Tab.{length-tab, tab-add}
 use Rattle.drifters_eqf.specs.Answer.{lengthRefusal}
-use Rattle.drifters_eqf.specs.Entry.{kindNumber, callLength}
-use Rattle.drifters_eqf.specs.Run.{filterLength}
-use Rattle.drifters_eqf.specs.declared.kind.Kind.{Kind}
-use Rattle.drifters_eqf.specs.declared.kind.Kind.the-variants.{Propagate, Position, Velocity, Direction, General, State}
+use Rattle.drifters_entry.specs.Entry.{kindNumber, callLength}
+use Rattle.drifters_entry.specs.Run.{filterLength}
+use Rattle.drifters_entry.specs.declared.kind.Kind.{Kind}
+use Rattle.drifters_entry.specs.declared.kind.Kind.the-variants.{Propagate, Position, Velocity, Direction, General, State}
 use Rattle.call_sheet.specs.declared.sheet.Filled.the-variants.{Refused}
 use Rattle.call_sheet.specs.Bytes.{u64At, u64sAt}
 use Rattle.call_sheet.specs.Sheet.{

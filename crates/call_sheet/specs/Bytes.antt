@@ -4,7 +4,7 @@ use mathlib.Core.Bool.{cond}
 use mathlib.Core.List.{List, [], _∷_, _++_}
 use lib.Dec.{ltb}
 use lib.ListN.{length, take, drop, getD}
-use Rattle.drifters_core.specs.Matrix.{tab}
+use Rattle.drifters_matrix.specs.Matrix.{tab}
 
 -- the byte at a place
 abbrev pub byteAt : List ℕ → ℕ → ℕ

@@ -7,10 +7,10 @@ use mathlib.Core.Option.{Option, none, some}
 use lib.Dec.{eqb, leb}
 use lib.ListN.{length, take, drop}
 use Rattle.drifters_eqf.specs.Answer.{lengthRefusal, sheetRefusal}
-use Rattle.drifters_eqf.specs.Run.{filterLength}
-use Rattle.drifters_eqf.specs.Entry.{kindNumber, callLength}
-use Rattle.drifters_eqf.specs.declared.kind.Kind.{Kind}
-use Rattle.drifters_eqf.specs.declared.kind.Kind.the-variants.{Propagate, Position, Velocity, Direction, General, State}
+use Rattle.drifters_entry.specs.Run.{filterLength}
+use Rattle.drifters_entry.specs.Entry.{kindNumber, callLength}
+use Rattle.drifters_entry.specs.declared.kind.Kind.{Kind}
+use Rattle.drifters_entry.specs.declared.kind.Kind.the-variants.{Propagate, Position, Velocity, Direction, General, State}
 use Rattle.call_sheet.specs.declared.sheet.Filled.{Filled}
 use Rattle.call_sheet.specs.declared.sheet.Filled.the-variants.{Length, Refused}
 use Rattle.call_sheet.specs.Bytes.{u32At, u64sAt, placed}
@@ -157,12 +157,6 @@ inRuns (some sheet) filter kinds numbers =
 -- a file's bytes read into lent runs
 unfoldable pub readInto : List ℕ → List ℕ → List ℕ → List ℕ → Runs
 readInto s filter kinds numbers = cond (runsFit filter kinds numbers) (inRuns (readSheet s) filter kinds numbers) (runs (Refused lengthRefusal) filter kinds numbers)
-
--- 1 is given exactly where a run is not of its stated length, 6 where all are and the bytes are no sheet
-abbrev pub SheetRefusals : Type 0
-SheetRefusals =
-    (s filter kinds numbers : List ℕ) → refusalOf (readInto s filter kinds numbers .answer)
-    ≡ cond (runsFit filter kinds numbers) (cond (isSome (readSheet s)) 0 sheetRefusal) lengthRefusal
 
 -- ---- the way back
 

@@ -7,11 +7,11 @@ use lib.Dec.{leb}
 use lib.ListN.{length}
 use lib.Ieee.{Float, binary64, ofBits, toBits}
 use Rattle.drifters_eqf.specs.Answer.{lengthRefusal, sheetRefusal}
-use Rattle.drifters_eqf.specs.Entry.{kindNumber}
-use Rattle.drifters_eqf.specs.Log.{Call, outcome}
+use Rattle.drifters_entry.specs.Entry.{kindNumber}
+use Rattle.drifters_entry.specs.Log.{Call, LogEntry, Log, logOf}
 use Rattle.drifters_eqf.specs.declared.filter.Answer.{Answer}
 use Rattle.drifters_eqf.specs.declared.filter.Answer.the-variants.{Nis, Fine, Refused}
-use Rattle.drifters_eqf.specs.declared.kind.Kind.{Kind}
+use Rattle.drifters_entry.specs.declared.kind.Kind.{Kind}
 use Rattle.call_sheet.specs.declared.sheet.Filled.{Filled}
 use Rattle.call_sheet.specs.declared.sheet.Filled.the-variants as filled
 use Rattle.call_sheet.specs.Bytes.{placed, digits, decimal}
@@ -55,17 +55,19 @@ numbersOf bits = map (ofBits binary64) bits
 abbrev pub callOf : SheetCall → Call
 callOf c = record { kind = c .kind; numbers = numbersOf (c .bits) }
 
--- the lines of calls from entry i on, each made on the filter that the one before it left
-unfoldable pub linesText : ℕ → List Float → List SheetCall → List ℕ
-linesText i run [] = []
-linesText i run (c ∷ cs) =
-    let o = outcome run (callOf c) in
-    lineText i (c .kind) (o .answer) ++ linesText (i + 1) (o .run) cs
+-- the log of a sheet: its filter, and its calls on it
+abbrev pub sheetLog : Sheet → Log
+sheetLog sheet = logOf (numbersOf (sheet .filter)) (map callOf (sheet .calls))
 
--- the text of a sheet; of a broken one only that it is refused
+-- the lines of the entries of a log, the first of which has the index i
+unfoldable pub linesText : ℕ → List LogEntry → List ℕ
+linesText i [] = []
+linesText i (e ∷ es) = lineText i (e .called .kind) (e .answer) ++ linesText (i + 1) es
+
+-- the text of a sheet: the lines of its log; of a broken one only that it is refused
 abbrev pub textOf : Option Sheet → List ℕ
 textOf none = refusedLine sheetRefusal
-textOf (some sheet) = linesText 1 (numbersOf (sheet .filter)) (sheet .calls)
+textOf (some sheet) = linesText 1 (sheetLog sheet .entries)
 
 -- the text that is printed for a file's bytes
 unfoldable pub sheetText : List ℕ → List ℕ

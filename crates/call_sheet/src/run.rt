@@ -1,10 +1,11 @@
 // Running a call sheet: its bytes in, the text of its answers out.
 ghost use mathlib.Core.Path.{_≡_};
+ghost use mathlib.Core.List.{map};
 ghost use Prim.Native.Nat.{_+_, _*_, _≤_};
 ghost use lib.ListN.{length, take};
 ghost use lib.Ieee.{binary64, ofBits};
-ghost use Rattle.drifters_eqf.specs.Entry.{callLength};
-ghost use Rattle.drifters_eqf.specs.Log.{outcome};
+ghost use Rattle.drifters_entry.specs.Entry.{callLength};
+ghost use Rattle.drifters_entry.specs.Log.{outcomeOn, entriesFrom};
 ghost use Rattle.call_sheet.specs.Bytes.{placed};
 ghost use Rattle.call_sheet.specs.Sheet.{sheetCall, bitsIn, callsIn};
 ghost use Rattle.call_sheet.specs.Text.{refusedLine, numbersOf, callOf, linesText, sheetText, printed, printInto};
@@ -21,9 +22,9 @@ use drifters_entry::entry::STATE_LENGTH;
 use drifters_entry::entry::call;
 use drifters_entry::entry::call_length;
 use drifters_entry::entry::written_length;
+use drifters_entry::kind::Kind;
 use drifters_eqf::filter::Answer;
 use drifters_eqf::filter::LENGTH_REFUSAL;
-use drifters_eqf::kind::Kind;
 
 // Room for every sheet's text: 23 bytes for each of 255 calls.
 pub const MOST_TEXT: usize = 5865;
@@ -75,7 +76,7 @@ fn put_refused(text: &mut [u8], n: u32) -> usize
 // these.
 fn run_calls(run: &mut [f64], kinds: &[u32], numbers: &[u64], text: &mut [u8]) -> usize
     requires { ⌜ (bitsIn (now kinds) ≤ length (now numbers)) × (23 * length (now kinds) ≤ length (now text)) ⌝ }
-    ensures { λ r. ⌜ (r ≡ length (linesText 1 (now (run .entry)) (callsIn (now (kinds .entry)) (now (numbers .entry))))) × (now (text .exit) ≡ placed (now (text .entry)) 0 (linesText 1 (now (run .entry)) (callsIn (now (kinds .entry)) (now (numbers .entry))))) ⌝ }
+    ensures { λ r. ⌜ (r ≡ length (linesText 1 (entriesFrom (now (run .entry)) (map callOf (callsIn (now (kinds .entry)) (now (numbers .entry))))))) × (now (text .exit) ≡ placed (now (text .entry)) 0 (linesText 1 (entriesFrom (now (run .entry)) (map callOf (callsIn (now (kinds .entry)) (now (numbers .entry))))))) ⌝ }
 {
     let mut at = 0;
     let mut length = 0;
@@ -92,7 +93,7 @@ fn run_calls(run: &mut [f64], kinds: &[u32], numbers: &[u64], text: &mut [u8]) -
 // Makes a call whose numbers are given by their bits; what a state call writes is not printed.
 fn run_call(kind: Kind, run: &mut [f64], bits: &[u64]) -> Answer
     requires { ⌜ length (now bits) ≡ callLength kind ⌝ }
-    ensures { λ r. ⌜ (r ≡ outcome (now (run .entry)) (callOf (sheetCall kind (now (bits .entry)))) .answer) × (now (run .exit) ≡ outcome (now (run .entry)) (callOf (sheetCall kind (now (bits .entry)))) .run) ⌝ }
+    ensures { λ r. ⌜ (r ≡ outcomeOn (now (run .entry)) (callOf (sheetCall kind (now (bits .entry)))) .answer) × (now (run .exit) ≡ outcomeOn (now (run .entry)) (callOf (sheetCall kind (now (bits .entry)))) .run) ⌝ }
 {
     let mut numbers = [0.0; MOST_CALL_NUMBERS];
     let n = bits.len();

@@ -2,15 +2,15 @@
 ghost use mathlib.Core.Path.{_≡_};
 ghost use Prim.Native.Nat.{_+_, _-_, _*_, _≤_};
 ghost use lib.ListN.{length};
-ghost use Rattle.drifters_eqf.specs.Entry.{kindNumber};
-ghost use Rattle.drifters_core.specs.Matrix.{tab};
+ghost use Rattle.drifters_entry.specs.Entry.{kindNumber};
+ghost use Rattle.drifters_matrix.specs.Matrix.{tab};
 ghost use Rattle.call_sheet.specs.Sheet.{kindAt, filterEnd, callsAt, readSheet, isSome, runs, readInto, kindOf};
 use crate::bytes::u32_at;
 use crate::bytes::u64s_at;
 use drifters_entry::entry::FILTER_LENGTH;
 use drifters_entry::entry::call_length;
+use drifters_entry::kind::Kind;
 use drifters_eqf::filter::LENGTH_REFUSAL;
-use drifters_eqf::kind::Kind;
 
 // The most entries of a sheet, the filter counted.
 const MOST_ENTRIES: usize = 256;

@@ -4,12 +4,12 @@ ghost use Prim.Native.Nat.{_+_, _-_, _≤_, _<_};
 ghost use mathlib.Core.List.{_++_};
 ghost use lib.ListN.{length, replicate};
 ghost use lib.Ieee.{binary64, toBits};
-ghost use Rattle.drifters_eqf.specs.Entry.{kindNumber};
+ghost use Rattle.drifters_entry.specs.Entry.{kindNumber};
 ghost use Rattle.call_sheet.specs.Bytes.{placed, digit, digits, decimal};
 ghost use Rattle.call_sheet.specs.Text.{refusedText, answerText, lineText};
 use crate::sheet::kind_number;
+use drifters_entry::kind::Kind;
 use drifters_eqf::filter::Answer;
-use drifters_eqf::kind::Kind;
 
 // Text of at most 16 bytes: the first `length` of them; the others are 0.
 pub struct Text {

@@ -11,7 +11,8 @@ use lib.ListN.{set}
 use lib.Ieee.{Float, le}
 use Rattle.drifters_real.specs.Scalar.{_⊘_, plusZero}
 use Rattle.drifters_real.specs.Real.{sqrt, isFinite}
-use Rattle.drifters_core.specs.Matrix.{at, badPivot, Factor, none, lower, reduced, factorEntry, factorColumns, factorRows, cholesky}
+use Rattle.drifters_matrix.specs.Matrix.{at}
+use Rattle.drifters_cholesky.specs.Cholesky.{badPivot, Factor, none, lower, reduced, factorEntry, factorColumns, factorRows, cholesky}
 
 -- the two tests of a pivot, made one after the other
 pub not-finite-bad : (x : Float) {t : Bool} → t ≡ isFinite x → not t ≡ true → badPivot x ≡ true

@@ -6,7 +6,7 @@ use native.Mathlib.Numerals.{add-one}
 use native.Mathlib.Omega.{arith}
 use lib.Ieee.{Float}
 use Rattle.drifters_real.specs.Scalar.{_⊖_, _⊗_}
-use Rattle.drifters_core.specs.Matrix.{subTerms}
+use Rattle.drifters_cholesky.specs.Cholesky.{subTerms}
 
 -- a step of a loop that takes the products from a sum
 pub sub-step : (s : Float) (f g : ℕ → Float) (k : ℕ) {v : Float} → v ≡ subTerms s f g k → v ⊖ f k ⊗ g k ≡ subTerms s f g (k + 1)

@@ -13,8 +13,9 @@ use lib.Dec.{eqb}
 use lib.ListN.{length, getD, set}
 use lib.Seq.{getD-set-same, getD-set-other}
 use lib.Ieee.{Float, nan}
-use Rattle.drifters_core.specs.Matrix.{at, subTerms, setRow, forwardRow, forward, backRow, back}
-use Rattle.drifters_core.proofs.Matrix.Grid.{row-in, lt-or-le, matrix-is}
+use Rattle.drifters_matrix.specs.Matrix.{at}
+use Rattle.drifters_cholesky.specs.Cholesky.{subTerms, setRow, forwardRow, forward, backRow, back}
+use Rattle.drifters_matrix.proofs.Matrix.Grid.{row-in, lt-or-le, matrix-is}
 use Rattle.drifters_cholesky.proofs.SubTerms.{sub-ext}
 
 -- x is o, a matrix of c columns, with the first j entries of row i replaced by those of f

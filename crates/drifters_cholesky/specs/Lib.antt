@@ -1,2 +1,2 @@
--- What `Cholesky::new` answers; the factorisation itself is defined in specs/Matrix.antt of drifters_core.
+-- What a reader must believe of the factorisation.
 pub mod Cholesky

@@ -1,5 +1,2 @@
--- What a reader must believe: one file for each file of the original, and the relation of the half turn.
-pub mod Matrix
+-- What a reader must believe of vectors.
 pub mod Vec3
-pub mod Quat
-pub mod Like

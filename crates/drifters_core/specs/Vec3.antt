@@ -1,13 +1,14 @@
 -- Port of math/vec3.rs: three-element column vectors. Definitions only.
+use Prim.Native.Nat.{ℕ}
 use mathlib.Core.Bool.{Bool, _&&_, cond}
 use mathlib.Core.List.{List, [], _∷_}
 use lib.ListN.{getD}
 use lib.Ieee.{Float, nan, neg, lt}
 use Rattle.drifters_real.specs.Scalar.{_⊕_, _⊖_, _⊗_, _⊘_, plusZero}
 use Rattle.drifters_real.specs.Real.{sqrt, abs, isFinite}
-use Rattle.drifters_core.specs.Matrix.{larger}
+use Rattle.drifters_matrix.specs.Matrix.{at, larger}
 use Rattle.drifters_core.specs.declared.math.vec3.Vec3.{Vec3}
-use Rattle.drifters_core.specs.declared.math.shapes.Mat3.{Mat3}
+use Rattle.drifters_matrix.specs.declared.math.shapes.Mat3.{Mat3}
 
 -- the vector of three components
 abbrev pub vec3 : Float → Float → Float → Vec3
@@ -106,3 +107,11 @@ negVec3 v = vec3 (neg (v .x)) (neg (v .y)) (neg (v .z))
 -- each component times s
 unfoldable pub mulVec3 : Vec3 → Float → Vec3
 mulVec3 v s = vec3 (v .x ⊗ s) (v .y ⊗ s) (v .z ⊗ s)
+
+-- row i of a 3 by 3 matrix times v
+abbrev pub rowTimes : List Float → ℕ → Vec3 → Float
+rowTimes m i v = at 3 m i 0 ⊗ v .x ⊕ at 3 m i 1 ⊗ v .y ⊕ at 3 m i 2 ⊗ v .z
+
+-- the 3 by 3 matrix m times v
+unfoldable pub mulMat3Vec3 : Mat3 → Vec3 → Vec3
+mulMat3Vec3 m v = record { x = rowTimes (m .«data») 0 v; y = rowTimes (m .«data») 1 v; z = rowTimes (m .«data») 2 v }

@@ -1,2 +1,2 @@
-// Port of drifters-core above its scalars: vectors, matrices and quaternions.
+// Port of drifters-core's vec3.rs: vectors. Matrices are in drifters_matrix, quaternions in drifters_quat.
 pub mod math;

@@ -1,6 +1,2 @@
-// Vectors, matrices and quaternions.
-pub mod lent;
-pub mod matrix;
-pub mod quat;
-pub mod shapes;
+// Vectors.
 pub mod vec3;

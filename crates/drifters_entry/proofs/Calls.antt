@@ -10,15 +10,15 @@ use lib.ListN.{length}
 use lib.Ieee.{Float}
 use borrow.Author.Tests.{eqb-true, eq-eqb, ne-eqb, not-true}
 use Rattle.drifters_real.specs.Real.{isFinite}
-use Rattle.drifters_core.specs.Matrix.{allFinite}
+use Rattle.drifters_matrix.specs.Matrix.{allFinite}
 use Rattle.drifters_eqf.specs.Answer.{lengthRefusal, blankRefusal, rangeRefusal}
-use Rattle.drifters_eqf.specs.Run.{filterLength, fromRun, toRun}
-use Rattle.drifters_eqf.specs.Entry.{callLength, writtenLength, requestOf, Outcome, outcome, outcomeOf, performed, refused, settledAs, settled, lengthsFit, firstRefusal, call}
+use Rattle.drifters_entry.specs.Run.{filterLength, fromRun, toRun}
+use Rattle.drifters_entry.specs.Entry.{callLength, writtenLength, requestOf, Outcome, outcome, outcomeOf, performed, refused, settledAs, settled, lengthsFit, firstRefusal, call}
 use Rattle.drifters_eqf.specs.declared.filter.Answer.{Answer}
 use Rattle.drifters_eqf.specs.declared.filter.Answer.the-variants.{Nis, Fine, Refused}
 use Rattle.drifters_eqf.specs.declared.filter.Answered.{Answered}
-use Rattle.drifters_eqf.specs.declared.kind.Kind.{Kind}
-use Rattle.drifters_eqf.specs.declared.kind.Kind.the-variants.{State}
+use Rattle.drifters_entry.specs.declared.kind.Kind.{Kind}
+use Rattle.drifters_entry.specs.declared.kind.Kind.the-variants.{State}
 use Rattle.drifters_entry.proofs.Parts.{allFinite-one}
 
 -- one of two lengths is not as stated: P and Q are the two ways to it, the second test made where the first holds

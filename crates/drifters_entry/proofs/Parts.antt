@@ -9,11 +9,11 @@ use lib.Seq.{take-all, take-at, getD-take, getD-drop, set-split}
 use lib.Ieee.{Float, nan}
 use borrow.Rule.Slice.PartMut.{putMid}
 use Rattle.drifters_real.specs.Real.{isFinite}
-use Rattle.drifters_core.specs.Matrix.{tab, allFinite}
+use Rattle.drifters_matrix.specs.Matrix.{tab, allFinite}
 use Rattle.drifters_core.specs.Vec3.{toArray, finiteVec3}
 use Rattle.drifters_core.specs.declared.math.vec3.Vec3.{Vec3}
-use Rattle.drifters_core.proofs.Matrix.Tab.{tab-is}
-use Rattle.drifters_eqf.specs.Run.{part}
+use Rattle.drifters_matrix.proofs.Matrix.Tab.{tab-is}
+use Rattle.drifters_entry.specs.Run.{part}
 
 -- the numbers of a part one by one
 pub tab-part : (v : List Float) (i n : ℕ) → i + n ≤ length v → tab n (λ k. getD v (i + k) nan) ≡ part v i n

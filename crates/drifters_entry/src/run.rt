@@ -4,20 +4,20 @@ ghost use mathlib.Core.List.{_++_};
 ghost use Prim.Native.Nat.{_+_, _≤_};
 ghost use lib.ListN.{length};
 ghost use Rattle.drifters_core.specs.Vec3.{toArray};
-ghost use Rattle.drifters_core.specs.Matrix.{allFinite};
-ghost use Rattle.drifters_symmetry.specs.Lie.{toArraySe3, vec3At};
+ghost use Rattle.drifters_matrix.specs.Matrix.{allFinite};
+ghost use Rattle.drifters_lie.specs.Lie.{toArraySe3, vec3At};
 ghost use Rattle.drifters_eqf.specs.Filter.{filterOf};
-ghost use Rattle.drifters_eqf.specs.Run.{filterLength, stateLength, part, mat3At, poseNumbers, fromRun, toRun, stateFromRun, stateToRun};
-use drifters_core::math::matrix::all_finite;
-use drifters_core::math::shapes::Mat3;
-use drifters_core::math::shapes::Mat21;
+ghost use Rattle.drifters_entry.specs.Run.{filterLength, stateLength, part, mat3At, poseNumbers, fromRun, toRun, stateFromRun, stateToRun};
 use drifters_core::math::vec3::Vec3;
 use drifters_eqf::filter::EqFilter;
+use drifters_lie::lie::Se3Tangent;
+use drifters_lie::lie::Se23;
+use drifters_matrix::math::matrix::all_finite;
+use drifters_matrix::math::shapes::Mat3;
+use drifters_matrix::math::shapes::Mat21;
 use drifters_real::math::real::is_finite;
 use drifters_symmetry::group::State;
 use drifters_symmetry::group::Symmetry;
-use drifters_symmetry::lie::Se3Tangent;
-use drifters_symmetry::lie::Se23;
 
 // Where the parts of a filter's run begin. A state has its biases, lever arm and calibration at the places of gamma, delta and E.
 const VELOCITY: usize = 9;

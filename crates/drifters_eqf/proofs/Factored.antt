@@ -5,7 +5,8 @@ use mathlib.Core.Bool.{true, true≢false}
 use mathlib.Core.List.{List}
 use Prim.Native.Nat.{ℕ, _*_}
 use lib.Ieee.{Float}
-use Rattle.drifters_core.specs.Matrix.{Factor, none, lower, cholesky, addMatrix}
+use Rattle.drifters_matrix.specs.Matrix.{addMatrix}
+use Rattle.drifters_cholesky.specs.Cholesky.{Factor, none, lower, cholesky}
 use Rattle.drifters_cholesky.specs.Cholesky.{answer3, factored3}
 use Rattle.drifters_cholesky.specs.declared.math.cholesky.Factored3.{Factored3}
 use Rattle.drifters_eqf.specs.Gcu.{definite, entriesOf, beta, nis, inflatedBy, inflate}

@@ -1,25 +1,25 @@
 -- Port of filter.rs: the filter's propagation and updates, with their refusals. Definitions only.
-use Prim.Native.Nat.{ℕ, _+_, _*_}
+use Prim.Native.Nat.{ℕ, _*_}
 use mathlib.Core.Bool.{Bool, _&&_, cond}
-use mathlib.Core.List.{List, _++_}
-use lib.ListN.{getD}
-use lib.Ieee.{Float, nan, binary64, le, ofBits}
+use mathlib.Core.List.{List}
+use lib.Ieee.{Float, binary64, le, ofBits}
 use Rattle.drifters_real.specs.Scalar.{_⊗_, half}
 use Rattle.drifters_real.specs.Real.{abs}
-use Rattle.drifters_core.specs.Matrix.{matrix, zeros, transpose, matmul, mulTranspose, scaled, setBlock, fromDiagonal, identity, symmetrize, Factor, cholesky, solve, addMatrix, subMatrix, negMatrix, mulMat3Vec3}
-use Rattle.drifters_core.specs.Vec3.{toArray, norm, normalized, skew, subVec3}
+use Rattle.drifters_matrix.specs.Matrix.{transpose, matmul, mulTranspose, scaled, symmetrize, addMatrix}
+use Rattle.drifters_cholesky.specs.Cholesky.{Factor, cholesky, solve}
+use Rattle.drifters_core.specs.Vec3.{toArray, norm, normalized, skew, subVec3, mulMat3Vec3}
 use Rattle.drifters_core.specs.declared.math.vec3.Vec3.{Vec3}
 use Rattle.drifters_eqf.specs.Answer.{turnRefusal, pivotRefusal}
-use Rattle.drifters_symmetry.specs.Lie.{toArraySe3, vec3At, fromArraySe3, chi, adjointApplySe3}
-use Rattle.drifters_symmetry.specs.Group.{compose, toArray21, scaledAlgebra, fromArray21, unit, ad, exp, adjointApply, defaultState, fromState, actState}
+use Rattle.drifters_symmetry.specs.Group.{compose, scaledAlgebra, fromArray21, exp, defaultState, fromState, actState}
 use Rattle.drifters_symmetry.specs.Lift.{lift}
 use Rattle.drifters_symmetry.specs.Linear.{stateMatrix, directionOutputMatrix, positionOutputMatrix, velocityOutputMatrix, transportedDirection, transportedPosition, transportedVelocity}
+use Rattle.drifters_covariance.specs.Covariance.{transition, processNoise, joseph, resetSigma}
 use Rattle.drifters_eqf.specs.Gcu.{definite, entriesOf, nis, inflate}
 use Rattle.drifters_symmetry.specs.declared.group.Symmetry.{Symmetry}
 use Rattle.drifters_symmetry.specs.declared.group.Algebra.{Algebra}
 use Rattle.drifters_symmetry.specs.declared.group.State.{State}
 use Rattle.drifters_symmetry.specs.declared.lift.Input.{Input}
-use Rattle.drifters_eqf.specs.declared.filter.ProcessNoise.{ProcessNoise}
+use Rattle.drifters_covariance.specs.declared.covariance.ProcessNoise.{ProcessNoise}
 use Rattle.drifters_eqf.specs.declared.filter.EqFilter.{EqFilter}
 use Rattle.drifters_eqf.specs.declared.filter.Answer.the-variants.{Nis, Fine, Refused}
 use Rattle.drifters_eqf.specs.declared.filter.Answered.{Answered}
@@ -61,44 +61,6 @@ midpoint f u dt = compose (f .x) (exp (halfStep f u dt))
 -- the algebra element of the full step, lifted at the midpoint
 unfoldable pub fullStep : EqFilter → Input → Float → Algebra
 fullStep f u dt = scaledAlgebra (lift (actState (midpoint f u dt) defaultState) u (f .gravity)) dt
-
--- the transition matrix I + A dt + ½ (A dt)²
-unfoldable pub transition : List Float → Float → List Float
-transition a dt =
-    let aDt = scaled 441 a dt in
-    addMatrix 441 (addMatrix 441 (identity 21) aDt) (scaled 441 (matmul 21 21 21 aDt aDt) half)
-
--- six numbers from place i on, as an input
-abbrev pub inputAt : List Float → ℕ → Input
-inputAt v i = record { omega = vec3At v i; accel = vec3At v (i + 3) }
-
--- column k of the input noise: the lift at unit input k less the lift at zero input, carried by x
-unfoldable pub inputColumn : Symmetry → State → Vec3 → ℕ → List Float
-inputColumn x estimate gravity k =
-    let quiet = toArray21 (lift estimate (inputAt (zeros 6) 0) gravity) in
-    toArray21 (adjointApply x (fromArray21 (subMatrix 21 (toArray21 (lift estimate (inputAt (unit 6 k) 0) gravity)) quiet)))
-
--- column k of the bias noise, before its sign
-unfoldable pub biasColumn : Symmetry → ℕ → List Float
-biasColumn x k = toArraySe3 (adjointApplySe3 (chi (x .c)) (fromArraySe3 (unit 6 k)))
-
--- the 21 by 18 matrix that maps the noise into normal coordinates
-unfoldable pub noiseMap : Symmetry → State → Vec3 → List Float
-noiseMap x estimate gravity =
-    let g = setBlock 21 18 21 6 0 0 (zeros 378) (matrix 21 6 (λ i k. getD (inputColumn x estimate gravity k) i nan)) in
-    let g = setBlock 21 18 6 6 9 6 g (negMatrix 36 (matrix 6 6 (λ i k. getD (biasColumn x k) i nan))) in
-    let g = setBlock 21 18 3 3 15 12 g (negMatrix 9 (x .c .rotation .«data»)) in
-    setBlock 21 18 3 3 18 15 g (x .e .«data»)
-
--- the densities in the order of `psd`
-abbrev pub psd : ProcessNoise → List Float
-psd q = toArray (q .gyro) ++ toArray (q .accel) ++ toArray (q .«gyro_bias») ++ toArray (q .«accel_bias») ++ toArray (q .lever) ++ toArray (q .mag)
-
--- the process noise in normal coordinates
-unfoldable pub processNoise : Symmetry → State → Vec3 → ProcessNoise → List Float
-processNoise x estimate gravity q =
-    let g = noiseMap x estimate gravity in
-    mulTranspose 21 18 21 (matmul 21 18 18 g (fromDiagonal 18 (psd q))) g
 
 -- the covariance after propagation: x is the new state of the observer, the estimate the old one
 unfoldable pub propagatedSigma : EqFilter → Input → Float → ProcessNoise → List Float
@@ -145,18 +107,6 @@ gain w f c y noise = transpose w 21 (solve w 21 (entriesOf (inflatedFactor w f c
 -- the correction as an algebra element
 unfoldable pub correction : ℕ → List Float → List Float → Algebra
 correction w k y = fromArray21 (matmul 21 w 1 k y)
-
--- the Joseph form (I - k c) sigma (I - k c)ᵀ + k noise kᵀ
-unfoldable pub joseph : ℕ → List Float → List Float → List Float → List Float → List Float
-joseph w sigma k c noise =
-    let ikc = subMatrix 441 (identity 21) (matmul 21 w 21 k c) in
-    addMatrix 441 (mulTranspose 21 21 21 (matmul 21 21 21 ikc sigma) ikc) (mulTranspose 21 w 21 (matmul 21 w w k noise) k)
-
--- the covariance carried through the reset I + ½ ad
-unfoldable pub resetSigma : Algebra → List Float → List Float
-resetSigma step sigma =
-    let reset = addMatrix 441 (identity 21) (scaled 441 (ad step) half) in
-    mulTranspose 21 21 21 (matmul 21 21 21 reset sigma) reset
 
 -- the filter after an update with the gain k
 unfoldable pub updated : ℕ → EqFilter → List Float → List Float → List Float → List Float → EqFilter

@@ -6,7 +6,8 @@ use lib.ListN.{getD}
 use lib.Ieee.{Float, nan, lt}
 use Rattle.drifters_real.specs.Scalar.{_⊕_, _⊗_, _⊘_, plusZero, one, two}
 use Rattle.drifters_real.specs.Real.{sqrt, max, clamp}
-use Rattle.drifters_core.specs.Matrix.{sumTerms, mulTranspose, scaled, Factor, none, lower, cholesky, solve, addMatrix}
+use Rattle.drifters_matrix.specs.Matrix.{sumTerms, mulTranspose, scaled, addMatrix}
+use Rattle.drifters_cholesky.specs.Cholesky.{Factor, none, lower, cholesky, solve}
 
 -- whether there is a factor
 abbrev pub definite : Factor → Bool

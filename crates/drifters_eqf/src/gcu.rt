@@ -2,8 +2,8 @@
 ghost use mathlib.Core.Path.{_≡_};
 ghost use Rattle.drifters_eqf.specs.Gcu.{dotVector, beta, nis, inflatedBy, inflate};
 use drifters_cholesky::math::cholesky::Cholesky3;
-use drifters_core::math::shapes::Mat3;
-use drifters_core::math::shapes::Vector3;
+use drifters_matrix::math::shapes::Mat3;
+use drifters_matrix::math::shapes::Vector3;
 use drifters_real::math::real::clamp;
 use drifters_real::math::real::max;
 use drifters_real::math::real::sqrt;

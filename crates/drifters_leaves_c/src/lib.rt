@@ -2,31 +2,33 @@
 // drifters_eqf_c exports what a product calls.
 ghost use mathlib.Core.Path.{_≡_};
 ghost use Rattle.drifters_core.specs.Vec3.{fromArray, toArray, normalized, amaxVec3};
-ghost use Rattle.drifters_core.specs.Matrix.{matmul, mulTranspose, fromDiagonal, symmetrize, amax, solve};
+ghost use Rattle.drifters_matrix.specs.Matrix.{matmul, mulTranspose, fromDiagonal, symmetrize, amax};
+ghost use Rattle.drifters_cholesky.specs.Cholesky.{solve};
 ghost use Rattle.drifters_cholesky.specs.Cholesky.{factored3};
-ghost use Rattle.drifters_core.specs.Quat.{fromRotationVector, toDcm};
-ghost use Rattle.drifters_symmetry.specs.Lie.{fromArraySe3, integratedAdjoint, leftJacobian};
+ghost use Rattle.drifters_quat.specs.Quat.{fromRotationVector, toDcm};
+ghost use Rattle.drifters_lie.specs.Lie.{fromArraySe3, leftJacobian};
+ghost use Rattle.drifters_adjoint.specs.Adjoint.{integratedAdjoint};
 ghost use Rattle.drifters_eqf.specs.Gcu.{beta};
+use drifters_adjoint::adjoint::integrated_adjoint;
 use drifters_cholesky::math::cholesky::Cholesky3;
-use drifters_core::math::lent::matmul3x21;
-use drifters_core::math::lent::matmul21;
-use drifters_core::math::lent::mul_transpose21;
-use drifters_core::math::lent::symmetrize21;
-use drifters_core::math::quat::Quat;
-use drifters_core::math::shapes::Mat3;
-use drifters_core::math::shapes::Mat3x21;
-use drifters_core::math::shapes::Mat6;
-use drifters_core::math::shapes::Mat18;
-use drifters_core::math::shapes::Mat21;
-use drifters_core::math::shapes::Mat21x3;
-use drifters_core::math::shapes::Mat21x18;
-use drifters_core::math::shapes::Vector3;
-use drifters_core::math::shapes::Vector6;
 use drifters_core::math::vec3::Vec3;
 use drifters_eqf::gcu::beta;
-use drifters_symmetry::lie::Se3Tangent;
-use drifters_symmetry::lie::integrated_adjoint;
-use drifters_symmetry::lie::left_jacobian;
+use drifters_lie::lie::Se3Tangent;
+use drifters_lie::lie::left_jacobian;
+use drifters_matrix::math::lent::matmul3x21;
+use drifters_matrix::math::lent::matmul21;
+use drifters_matrix::math::lent::mul_transpose21;
+use drifters_matrix::math::lent::symmetrize21;
+use drifters_matrix::math::shapes::Mat3;
+use drifters_matrix::math::shapes::Mat3x21;
+use drifters_matrix::math::shapes::Mat6;
+use drifters_matrix::math::shapes::Mat18;
+use drifters_matrix::math::shapes::Mat21;
+use drifters_matrix::math::shapes::Mat21x3;
+use drifters_matrix::math::shapes::Mat21x18;
+use drifters_matrix::math::shapes::Vector3;
+use drifters_matrix::math::shapes::Vector6;
+use drifters_quat::math::quat::Quat;
 
 #[no_mangle]
 pub extern "C" fn drifters_normalized(v: &[f64; 3], out: &mut [f64; 3])
@@ -49,7 +51,7 @@ pub extern "C" fn drifters_amax(v: &[f64; 3]) -> f64
 // The quaternion of a rotation vector, as w, x, y, z, and its direction cosine matrix.
 #[no_mangle]
 pub extern "C" fn drifters_rotation(phi: &[f64; 3], q: &mut [f64; 4], dcm: &mut [f64; 9])
-    ensures { λ _. ⌜ (now (q .exit) ≡ Rattle.drifters_core.specs.Quat.toArray (fromRotationVector (fromArray (now (phi .entry))))) × (now (dcm .exit) ≡ toDcm (fromRotationVector (fromArray (now (phi .entry)))) .data) ⌝ }
+    ensures { λ _. ⌜ (now (q .exit) ≡ Rattle.drifters_quat.specs.Quat.toArray (fromRotationVector (fromArray (now (phi .entry))))) × (now (dcm .exit) ≡ toDcm (fromRotationVector (fromArray (now (phi .entry)))) .data) ⌝ }
 {
     let a = *phi;
     let r = Quat::from_rotation_vector(Vec3::from_array(a));

@@ -1,2 +1,3 @@
 -- The laws that the proofs of the functions cite, and the theorems.
 pub mod Real
+pub mod Reading

@@ -4,11 +4,12 @@ use mathlib.Core.List.{List, _++_}
 use lib.ListN.{getD, set}
 use lib.Ieee.{Float, nan}
 use Rattle.drifters_real.specs.Scalar.{one}
-use Rattle.drifters_core.specs.Matrix.{matrix, zeros, matmul, mulMat3Vec3}
-use Rattle.drifters_core.specs.Vec3.{zeroVec3, toArray, cross, addVec3, subVec3, negVec3, mulVec3}
-use Rattle.drifters_core.specs.Quat.{fromRotationVector, toDcm}
+use Rattle.drifters_matrix.specs.Matrix.{matrix, zeros, matmul}
+use Rattle.drifters_core.specs.Vec3.{zeroVec3, toArray, cross, addVec3, subVec3, negVec3, mulVec3, mulMat3Vec3}
+use Rattle.drifters_quat.specs.Quat.{fromRotationVector, toDcm}
 use Rattle.drifters_core.specs.declared.math.vec3.Vec3.{Vec3}
-use Rattle.drifters_symmetry.specs.Lie.{identity3, matmul3, transpose3, se23Tangent, zeroSe3Tangent, toArraySe23, scaledSe23, pi, toArraySe3, vec3At, se3TangentAt, fromArraySe3, bracketSe3, addSe3, subSe3, negSe3, leftJacobian, identitySe23, composeSe23, inverseSe23, adjointApplySe23, chi, expSe23, inverseSe3, adjointApplySe3, scaledSe3, integratedAdjoint}
+use Rattle.drifters_lie.specs.Lie.{identity3, matmul3, transpose3, se23Tangent, zeroSe3Tangent, toArraySe23, scaledSe23, pi, toArraySe3, vec3At, se3TangentAt, fromArraySe3, bracketSe3, addSe3, subSe3, negSe3, leftJacobian, identitySe23, composeSe23, inverseSe23, adjointApplySe23, chi, expSe23, inverseSe3, adjointApplySe3}
+use Rattle.drifters_adjoint.specs.Adjoint.{integratedAdjoint, scaledSe3}
 use Rattle.drifters_symmetry.specs.declared.group.Symmetry.{Symmetry}
 use Rattle.drifters_symmetry.specs.declared.group.Algebra.{Algebra}
 use Rattle.drifters_symmetry.specs.declared.group.State.{State}

@@ -1,8 +1,7 @@
 -- Port of lift.rs: the lift of the dynamics to the algebra. Definitions only.
-use Rattle.drifters_core.specs.Matrix.{mulMat3Vec3}
-use Rattle.drifters_core.specs.Vec3.{cross, addVec3, subVec3}
+use Rattle.drifters_core.specs.Vec3.{cross, addVec3, subVec3, mulMat3Vec3}
 use Rattle.drifters_core.specs.declared.math.vec3.Vec3.{Vec3}
-use Rattle.drifters_symmetry.specs.Lie.{transpose3, se23Tangent, pi, bracketSe3}
+use Rattle.drifters_lie.specs.Lie.{transpose3, se23Tangent, pi, bracketSe3}
 use Rattle.drifters_symmetry.specs.declared.group.Algebra.{Algebra}
 use Rattle.drifters_symmetry.specs.declared.group.State.{State}
 use Rattle.drifters_symmetry.specs.declared.lift.Input.{Input}

@@ -3,11 +3,11 @@ use Prim.Native.Nat.{ℕ}
 use mathlib.Core.List.{List}
 use lib.Ieee.{Float}
 use Rattle.drifters_real.specs.Scalar.{half}
-use Rattle.drifters_core.specs.Matrix.{zeros, setBlock, mulMat3Vec3}
-use Rattle.drifters_core.specs.Vec3.{zeroVec3, skew, addVec3, mulVec3}
+use Rattle.drifters_matrix.specs.Matrix.{zeros, setBlock}
+use Rattle.drifters_core.specs.Vec3.{zeroVec3, skew, addVec3, mulVec3, mulMat3Vec3}
 use Rattle.drifters_core.specs.declared.math.vec3.Vec3.{Vec3}
-use Rattle.drifters_core.specs.declared.math.shapes.Mat3.{Mat3}
-use Rattle.drifters_symmetry.specs.Lie.{identity3, matmul3, neg3, se23Tangent, pi, adSe3, addSe3, addSe23, adjointApplySe23}
+use Rattle.drifters_matrix.specs.declared.math.shapes.Mat3.{Mat3}
+use Rattle.drifters_lie.specs.Lie.{identity3, matmul3, neg3, se23Tangent, pi, adSe3, addSe3, addSe23, adjointApplySe23}
 use Rattle.drifters_symmetry.specs.Group.{inverse, actDirection, actPosition, actVelocity}
 use Rattle.drifters_symmetry.specs.declared.group.Symmetry.{Symmetry}
 use Rattle.drifters_symmetry.specs.declared.lift.Input.{Input}

@@ -1,20 +1,21 @@
 // Port of group.rs: the symmetry group, its algebra, and its action on the state, by value.
 ghost use mathlib.Core.Path.{_≡_};
 ghost use Prim.Native.Nat.{_<_};
-ghost use Rattle.drifters_symmetry.specs.Lie.{chi};
+ghost use Rattle.drifters_lie.specs.Lie.{chi};
 ghost use Rattle.drifters_symmetry.specs.Group.{compose, inverse, toArray21, scaledAlgebra, fromArray21, bracket, unit, ad, exp, adjointApply, defaultState, fromState, actState, actDirection, actPosition, actVelocity};
-use crate::lie::Se3;
-use crate::lie::Se3Tangent;
-use crate::lie::Se23;
-use crate::lie::Se23Tangent;
-use crate::lie::integrated_adjoint;
-use crate::lie::left_jacobian;
-use drifters_core::math::lent::set_column21;
-use drifters_core::math::quat::Quat;
-use drifters_core::math::shapes::Mat3;
-use drifters_core::math::shapes::Mat21;
-use drifters_core::math::shapes::Vector6;
+use drifters_adjoint::adjoint::integrated_adjoint;
 use drifters_core::math::vec3::Vec3;
+use drifters_core::math::vec3::mul_vec3;
+use drifters_lie::lie::Se3;
+use drifters_lie::lie::Se3Tangent;
+use drifters_lie::lie::Se23;
+use drifters_lie::lie::Se23Tangent;
+use drifters_lie::lie::left_jacobian;
+use drifters_matrix::math::lent::set_column21;
+use drifters_matrix::math::shapes::Mat3;
+use drifters_matrix::math::shapes::Mat21;
+use drifters_matrix::math::shapes::Vector6;
+use drifters_quat::math::quat::Quat;
 
 // An element of the symmetry group: C acts on the extended pose, gamma is the bias part, delta the lever arm's, E the
 // magnetometer calibration's.
@@ -48,7 +49,7 @@ impl Symmetry {
         Symmetry {
             c: self.c.compose(other.c),
             gamma: self.gamma.add(self.b().adjoint_apply(other.gamma)),
-            delta: self.delta.add(self.a().mul_vec3(other.delta)),
+            delta: self.delta.add(mul_vec3(self.a(), other.delta)),
             e: self.e.matmul(other.e),
         }
     }
@@ -60,7 +61,7 @@ impl Symmetry {
         Symmetry {
             c: self.c.inverse(),
             gamma: self.b().inverse().adjoint_apply(self.gamma).neg(),
-            delta: self.a().transpose().mul_vec3(self.delta).neg(),
+            delta: mul_vec3(self.a().transpose(), self.delta).neg(),
             e: self.e.transpose(),
         }
     }
@@ -78,7 +79,7 @@ impl Symmetry {
         Symmetry {
             c: Se23::exp_with(t, jacobian),
             gamma: Se3Tangent::from_array(gamma),
-            delta: jacobian.mul_vec3(u.delta),
+            delta: mul_vec3(jacobian, u.delta),
             e: Quat::from_rotation_vector(u.e).to_dcm(),
         }
     }
@@ -96,9 +97,9 @@ impl Symmetry {
                 .bracket(b.adjoint_apply(t.pi()))
                 .add(b.adjoint_apply(u.gamma)),
             delta: self.delta
-                .cross(a.mul_vec3(t.omega))
-                .add(a.mul_vec3(u.delta)),
-            e: self.e.mul_vec3(u.e),
+                .cross(mul_vec3(a, t.omega))
+                .add(mul_vec3(a, u.delta)),
+            e: mul_vec3(self.e, u.e),
         }
     }
 
@@ -109,7 +110,7 @@ impl Symmetry {
         let c = xi.pose;
         let a = c.rotation;
         let gamma = c.chi().adjoint_apply(xi.bias).neg();
-        let delta = a.mul_vec3(xi.lever).neg();
+        let delta = mul_vec3(a, xi.lever).neg();
         let e = a.matmul(xi.mag);
         Symmetry { c, gamma, delta, e }
     }
@@ -261,7 +262,7 @@ pub fn act_state(x: Symmetry, xi: State) -> State
     State {
         pose: xi.pose.compose(x.c),
         bias: x.b().inverse().adjoint_apply(xi.bias.sub(x.gamma)),
-        lever: a_t.mul_vec3(xi.lever.sub(x.delta)),
+        lever: mul_vec3(a_t, xi.lever.sub(x.delta)),
         mag: a_t.matmul(xi.mag).matmul(x.e),
     }
 }
@@ -270,21 +271,22 @@ pub fn act_state(x: Symmetry, xi: State) -> State
 pub fn act_direction(x: Symmetry, y: Vec3) -> Vec3
     ensures { λ r. ⌜ r ≡ actDirection x y ⌝ }
 {
-    x.e.transpose().mul_vec3(y)
+    mul_vec3(x.e.transpose(), y)
 }
 
 // The action on a position.
 pub fn act_position(x: Symmetry, y: Vec3) -> Vec3
     ensures { λ r. ⌜ r ≡ actPosition x y ⌝ }
 {
-    x.a().transpose().mul_vec3(y.sub(x.c.position).add(x.delta))
+    mul_vec3(x.a().transpose(), y.sub(x.c.position).add(x.delta))
 }
 
 // The action on a velocity, at an angular rate.
 pub fn act_velocity(x: Symmetry, y: Vec3, omega: Vec3) -> Vec3
     ensures { λ r. ⌜ r ≡ actVelocity x y omega ⌝ }
 {
-    x.a()
-        .transpose()
-        .mul_vec3(y.sub(x.c.velocity).sub(x.delta.cross(omega)))
+    mul_vec3(
+        x.a().transpose(),
+        y.sub(x.c.velocity).sub(x.delta.cross(omega)),
+    )
 }

@@ -1,5 +1,4 @@
-// Port of drifters-eqf's lie.rs, group.rs, lift.rs and linear.rs: the symmetry group that the equivariant filter stands on.
+// Port of drifters-eqf's group.rs, lift.rs and linear.rs: the symmetry group that the equivariant filter stands on.
 pub mod group;
-pub mod lie;
 pub mod lift;
 pub mod linear;

@@ -3,8 +3,9 @@ ghost use mathlib.Core.Path.{_≡_};
 ghost use Rattle.drifters_symmetry.specs.Lift.{lift};
 use crate::group::Algebra;
 use crate::group::State;
-use crate::lie::Se23Tangent;
 use drifters_core::math::vec3::Vec3;
+use drifters_core::math::vec3::mul_vec3;
+use drifters_lie::lie::Se23Tangent;
 
 // The measurements of the gyroscope and the accelerometer, in the body frame.
 pub struct Input {
@@ -20,11 +21,11 @@ pub fn lift(xi: State, u: Input, gravity: Vec3) -> Algebra
     let rate = u.omega.sub(xi.bias.omega);
     let c = Se23Tangent::new(
         rate,
-        u.accel.sub(xi.bias.nu).add(r_t.mul_vec3(gravity)),
-        r_t.mul_vec3(xi.pose.velocity),
+        u.accel.sub(xi.bias.nu).add(mul_vec3(r_t, gravity)),
+        mul_vec3(r_t, xi.pose.velocity),
     );
     let gamma = xi.bias.bracket(c.pi());
     let delta = xi.lever.cross(rate);
-    let e = xi.mag.transpose().mul_vec3(rate);
+    let e = mul_vec3(xi.mag.transpose(), rate);
     Algebra { c, gamma, delta, e }
 }

@@ -5,12 +5,13 @@ use crate::group::Symmetry;
 use crate::group::act_direction;
 use crate::group::act_position;
 use crate::group::act_velocity;
-use crate::lie::Se23Tangent;
 use crate::lift::Input;
-use drifters_core::math::shapes::Mat3;
-use drifters_core::math::shapes::Mat3x21;
-use drifters_core::math::shapes::Mat21;
 use drifters_core::math::vec3::Vec3;
+use drifters_core::math::vec3::mul_vec3;
+use drifters_lie::lie::Se23Tangent;
+use drifters_matrix::math::shapes::Mat3;
+use drifters_matrix::math::shapes::Mat3x21;
+use drifters_matrix::math::shapes::Mat21;
 
 // The linearised dynamics at x, for the input u.
 pub fn state_matrix(x: Symmetry, u: Input, gravity: Vec3) -> Mat21
@@ -25,7 +26,7 @@ pub fn state_matrix(x: Symmetry, u: Input, gravity: Vec3) -> Mat21
     let w = Se23Tangent::new(u.omega, u.accel, Vec3::ZERO);
     let g = Se23Tangent::new(Vec3::ZERO, gravity, Vec3::ZERO);
     let m = m.set_block6(9, 9, x.gamma.add(x.c.adjoint_apply(w).add(g).pi()).ad());
-    let a3 = x.a().mul_vec3(u.omega).add(x.gamma.omega).skew();
+    let a3 = mul_vec3(x.a(), u.omega).add(x.gamma.omega).skew();
     let m = m.set_block(15, 15, a3);
     let m = m.set_block(18, 18, a3);
     let m = m.set_block(18, 0, a3.neg());

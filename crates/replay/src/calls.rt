@@ -1,11 +1,7 @@
-// The calls of a sheet, run in turn, against the original's stored answers.
-ghost use Prim.Native.Nat.{_+_, _*_, _≤_};
+// The calls of a sheet, made in turn and compared with the original's stored answers.
+ghost use Prim.Native.Nat.{_+_, _≤_};
 ghost use lib.ListN.{length};
-use crate::digest::digest;
-use crate::outcome::ANSWER_BYTES;
-use crate::outcome::Outcome;
-use crate::outcome::UNTOUCHED;
-use crate::tally::Tally;
+use crate::files::read_named;
 use call_sheet::run::number_of;
 use call_sheet::sheet::Filled;
 use call_sheet::sheet::MOST_BYTES;
@@ -13,16 +9,12 @@ use call_sheet::sheet::MOST_CALLS;
 use call_sheet::sheet::kind_of;
 use call_sheet::sheet::read_sheet;
 use drifters_entry::entry::FILTER_LENGTH;
-use drifters_entry::entry::STATE_LENGTH;
-use drifters_entry::entry::call;
 use drifters_entry::entry::call_length;
-use drifters_entry::entry::written_length;
-use drifters_eqf::kind::Kind;
-use libc::STDOUT_FILENO;
-use sheet_file::read_file;
-
-// The most numbers of a call.
-const MOST_CALL_NUMBERS: usize = 75;
+use replay_lists::calls::MOST_CALL_NUMBERS;
+use replay_lists::calls::run_call;
+use replay_lists::outcome::ANSWER_BYTES;
+use replay_lists::tally::Tally;
+use replay_lists::tally::unread;
 
 // Room for 256 calls of 75 numbers: more than a sheet holds, so that the place of each of its calls is seen to lie in it.
 const ROOM: usize = 19200;
@@ -38,27 +30,6 @@ fn numbers_of(bits: &[u64; ROOM], at: usize) -> [f64; MOST_CALL_NUMBERS]
     numbers
 }
 
-// The digest of the run that was lent for a state. It comes as an array, so that its length is known.
-fn state_digest(state: &[f64; STATE_LENGTH]) -> u64 {
-    digest(state)
-}
-
-// Makes a call whose numbers begin at a place of `bits`.
-fn run_call(kind: Kind, run: &mut [f64], bits: &[u64; ROOM], at: usize) -> Outcome
-    requires { ⌜ at + 75 ≤ 19200 ⌝ }
-{
-    let numbers = numbers_of(bits, at);
-    let mut state = [UNTOUCHED; STATE_LENGTH];
-    let n = call_length(kind);
-    let m = written_length(kind);
-    let answer = call(kind, run, &numbers[..n], &mut state[..m]);
-    Outcome {
-        answer,
-        state: state_digest(&state),
-        filter: digest(run),
-    }
-}
-
 // Makes the first n calls in turn, each on the filter that the one before it left.
 fn run_calls(
     run: &mut [f64],
@@ -67,15 +38,14 @@ fn run_calls(
     bits: &[u64; ROOM],
     answers: &[u8],
 ) -> Tally
-    requires { ⌜ (n ≤ 255) × (32 * n ≤ length (now answers)) ⌝ }
+    requires { ⌜ n ≤ 255 ⌝ }
 {
     let mut t = Tally::none();
     let mut at = 0;
     for i in 0..n {
         let kind = kind_of(kinds[i]);
-        let outcome = run_call(kind, run, bits, at);
-        let answer = outcome.answer;
-        t = t.count(answer, outcome.is_stored(answers, ANSWER_BYTES * i));
+        let outcome = run_call(kind, run, numbers_of(bits, at));
+        t = t.compare(outcome, answers, ANSWER_BYTES * i);
         at += call_length(kind);
     }
     t
@@ -88,13 +58,6 @@ fn filter_of(bits: &[u64; FILTER_LENGTH]) -> [f64; FILTER_LENGTH] {
         run[i] = number_of(bits[i]);
     }
     run
-}
-
-// Says that a list's files are missing or do not fit each other: no call is made.
-pub(crate) fn unread(name: &[u8]) -> Tally {
-    io::write_all(STDOUT_FILENO, name);
-    io::write_all(STDOUT_FILENO, b": cannot be read\n");
-    Tally::none()
 }
 
 // A sheet and its answers, as many as it has calls.
@@ -118,11 +81,35 @@ fn replay_sheet(name: &[u8], sheet: &[u8], answers: &[u8]) -> Tally
     }
 }
 
-// Replays a sheet's file against the file of its answers.
-pub(crate) fn replay(name: &[u8], sheet_path: &[u8], answers_path: &[u8]) -> Tally {
-    let mut sheet = [0u8; MOST_BYTES];
-    let n = read_file(sheet_path, &mut sheet);
-    let mut answers = [0u8; ANSWER_BYTES * MOST_CALLS];
-    let m = read_file(answers_path, &mut answers);
-    replay_sheet(name, &sheet[..n], &answers[..m])
+// Room for a sheet's file. The runs come from small functions: a proof that holds their zeros is slow.
+pub(crate) fn sheet_room() -> [u8; MOST_BYTES] {
+    [0; MOST_BYTES]
+}
+
+// Room for the file of its answers.
+fn answers_room() -> [u8; ANSWER_BYTES * MOST_CALLS] {
+    [0; ANSWER_BYTES * MOST_CALLS]
+}
+
+// Replays the sheet of one name against the answers of another.
+pub(crate) fn replay_files(title: &[u8], sheet_name: &[u8], answers_name: &[u8]) -> Tally {
+    let mut sheet = sheet_room();
+    let n = read_named(sheet_name, b".sheet", &mut sheet);
+    let mut answers = answers_room();
+    let m = read_named(answers_name, b".answers", &mut answers);
+    replay_sheet(title, &sheet[..n], &answers[..m])
+}
+
+// Replays the lists of names, of which each ends with a space; answers their calls with those before.
+pub(crate) fn replay(before: Tally, names: &[u8]) -> Tally {
+    let mut t = before;
+    let mut from = 0;
+    for i in 0..names.len() {
+        if names[i] == b' ' {
+            let name = &names[from..i];
+            t = t.add(replay_files(name, name, name));
+            from = i + 1;
+        }
+    }
+    t
 }

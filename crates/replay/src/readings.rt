@@ -1,13 +1,13 @@
 // Document 01's readings that have no star: the lengths of the runs, and the text of sheets.
 ghost use Prim.Native.Nat.{_≤_};
-use crate::calls::unread;
+use crate::calls::sheet_room;
 use call_sheet::run::MOST_TEXT;
 use call_sheet::run::sheet_text;
-use call_sheet::sheet::MOST_BYTES;
 use drifters_entry::entry;
 use drifters_eqf::filter::Answer;
 use drifters_eqf::filter::LENGTH_REFUSAL;
 use libc::STDOUT_FILENO;
+use replay_lists::tally::unread;
 use sheet_file::read_file;
 
 // 1 for the refusal by length, 0 for another answer.
@@ -20,18 +20,33 @@ fn by_length(answer: Answer) -> u64
     }
 }
 
-// How many of the five calls with numbers are refused by length. Each has `less` numbers fewer than one too many: 1 gives the stated length.
+// More numbers than a call has.
+fn zeros() -> [f64; 76] {
+    [0.0; 76]
+}
+
+// How many of a propagation and a general update are refused by length. Each has `less` numbers fewer than one too many: 1 gives the stated
+// length.
 fn refused_calls(run: &mut [f64], less: usize) -> u64
     requires { ⌜ less ≤ 2 ⌝ }
-    ensures { λ r. ⌜ r ≤ 5 ⌝ }
+    ensures { λ r. ⌜ r ≤ 2 ⌝ }
 {
-    let numbers = [0.0; 76];
+    let numbers = zeros();
     let a = by_length(entry::propagate(run, &numbers[..26 - less]));
-    let b = by_length(entry::update_position(run, &numbers[..13 - less]));
-    let c = by_length(entry::update_velocity(run, &numbers[..16 - less]));
-    let d = by_length(entry::update_direction(run, &numbers[..16 - less]));
-    let e = by_length(entry::update(run, &numbers[..76 - less]));
-    a + b + c + d + e
+    let b = by_length(entry::update(run, &numbers[..76 - less]));
+    a + b
+}
+
+// The same of a position, a velocity and a direction.
+fn refused_measured(run: &mut [f64], less: usize) -> u64
+    requires { ⌜ less ≤ 2 ⌝ }
+    ensures { λ r. ⌜ r ≤ 3 ⌝ }
+{
+    let numbers = zeros();
+    let a = by_length(entry::update_position(run, &numbers[..13 - less]));
+    let b = by_length(entry::update_velocity(run, &numbers[..16 - less]));
+    let c = by_length(entry::update_direction(run, &numbers[..16 - less]));
+    a + b + c
 }
 
 // The same of a state and a start.
@@ -50,7 +65,7 @@ fn refused_others(run: &mut [f64], less: usize) -> u64
 fn refused(name: &[u8], run: &mut [f64], less: usize)
     requires { ⌜ less ≤ 2 ⌝ }
 {
-    let n = refused_calls(run, less) + refused_others(run, less);
+    let n = refused_calls(run, less) + refused_measured(run, less) + refused_others(run, less);
     io::write_all(STDOUT_FILENO, name);
     io::write_all(STDOUT_FILENO, b": ");
     io::print_decimal(STDOUT_FILENO, n);
@@ -71,7 +86,7 @@ pub(crate) fn print_lengths() {
 
 // A sheet's file as the program `sheet` prints it.
 pub(crate) fn print_sheet(name: &[u8], path: &[u8]) {
-    let mut bytes = [0u8; MOST_BYTES];
+    let mut bytes = sheet_room();
     let n = read_file(path, &mut bytes);
     if n == 0 {
         unread(name);

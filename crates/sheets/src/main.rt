@@ -7,6 +7,7 @@ use call_sheet::sheet::Filled;
 use call_sheet::sheet::MOST_BYTES;
 use drifters_eqf::filter::LENGTH_REFUSAL;
 use libc::STDOUT_FILENO;
+use sheet_file::counted;
 use sheet_file::read_file;
 
 // Room for the sheets that are made here, the longest of them longer than a sheet may be.
@@ -133,6 +134,50 @@ fn one_calls() {
     one_call(b"a second filter", 0, 3844, 7668);
 }
 
+// How many bytes count.
+fn print_count(name: &[u8], n: usize) {
+    io::write_all(STDOUT_FILENO, name);
+    io::write_all(STDOUT_FILENO, b": ");
+    io::print_decimal(STDOUT_FILENO, n as u64);
+    io::write_all(STDOUT_FILENO, b" bytes\n");
+}
+
+// A file of 65,537 bytes in a run that holds it, and in one that is a byte too short.
+fn long_file() {
+    let mut whole = [0u8; MOST_BYTES + 1];
+    print_count(
+        b"a file in a run of its length",
+        read_file(b"long.bin", &mut whole),
+    );
+    let mut short = [0u8; MOST_BYTES];
+    print_count(
+        b"in a run a byte shorter",
+        read_file(b"long.bin", &mut short),
+    );
+}
+
+// The same file in a run that holds a sheet of a filter and a state call: what the file begins with.
+fn sheet_and_more() {
+    let mut bytes = [0u8; 3844];
+    let n = read_file(b"long.bin", &mut bytes);
+    report(b"a sheet, and more bytes than the run holds", &bytes[..n]);
+}
+
+// What counts of 3,844 bytes by the answer of one further read.
+fn further_reads() {
+    print_count(b"3844 bytes, then the end", counted(3844, 0));
+    print_count(b"3844 bytes, then a byte", counted(3844, 1));
+    print_count(b"3844 bytes, then a failure", counted(3844, -1));
+}
+
+// What is read of files, and what of it counts.
+fn files() {
+    file(b"a folder", b".");
+    long_file();
+    sheet_and_more();
+    further_reads();
+}
+
 fn main() {
     file(b"every kind and every refusal", b"flight.bin");
     file(b"large numbers", b"overflow.bin");
@@ -148,4 +193,5 @@ fn main() {
     long(b"the longest sheet", 113, 65532);
     long(b"a longer one", 114, 65540);
     short_text();
+    files();
 }

@@ -18,7 +18,7 @@ pub const UNTOUCHED: f64 = 1.5;
 /// Above this the numbers of a filter only lead to more refusals of one kind.
 const MOST_NUMBER: f64 = 1e6;
 
-/// The digest of crates/replay/src/digest.rt.
+/// The digest of crates/replay_lists/src/digest.rt.
 pub fn digest(numbers: &[f64]) -> u64 {
     const M: u64 = 0x7fff_ffff;
     let (mut a, mut b) = (0, 0);

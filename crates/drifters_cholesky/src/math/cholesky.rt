@@ -3,11 +3,12 @@ ghost use mathlib.Core.Path.{_≡_};
 ghost use mathlib.Core.Bool.{cond};
 ghost use Prim.Native.Nat.{_*_};
 ghost use lib.ListN.{length};
-ghost use Rattle.drifters_core.specs.Matrix.{zeros, none, lower, cholesky, forward, back, solve};
+ghost use Rattle.drifters_matrix.specs.Matrix.{zeros};
+ghost use Rattle.drifters_cholesky.specs.Cholesky.{none, lower, cholesky, forward, back, solve};
 ghost use Rattle.drifters_cholesky.specs.Cholesky.{factored3};
-use drifters_core::math::shapes::Mat3;
-use drifters_core::math::shapes::Mat3x21;
-use drifters_core::math::shapes::Vector3;
+use drifters_matrix::math::shapes::Mat3;
+use drifters_matrix::math::shapes::Mat3x21;
+use drifters_matrix::math::shapes::Vector3;
 use drifters_real::math::real::is_finite;
 use drifters_real::math::real::sqrt;
 

@@ -1,8 +1,9 @@
 // Port of math/vec3.rs: three-element column vectors, by value. The operators are named functions.
 ghost use mathlib.Core.Path.{_≡_};
-ghost use Rattle.drifters_core.specs.Vec3.{vec3, splat, fromArray, toArray, dot, cross, norm, normSquared, normalized, componentMul, componentDiv, squared, skew, toDiag, finiteVec3, amaxVec3, addVec3, subVec3, negVec3, mulVec3, divVec3};
-use crate::math::matrix::larger;
-use crate::math::shapes::Mat3;
+ghost use Rattle.drifters_core.specs.Vec3.{vec3, splat, fromArray, toArray, dot, cross, norm, normSquared, normalized, componentMul, componentDiv, squared, skew, toDiag, finiteVec3, amaxVec3, addVec3, subVec3, negVec3, mulVec3, divVec3, mulMat3Vec3};
+use drifters_matrix::math::matrix::larger;
+use drifters_matrix::math::shapes::Mat3;
+use drifters_matrix::math::shapes::Vector3;
 use drifters_real::math::real::abs;
 use drifters_real::math::real::is_finite;
 use drifters_real::math::real::sqrt;
@@ -199,5 +200,29 @@ impl Vec3 {
             y: self.y / s,
             z: self.z / s,
         }
+    }
+}
+
+// The two functions below are `Mul<Vec3> for Mat3` and `From<Vec3> for Vector<3>` of the original's matrix.rs. They stand here so that
+// matrices do not know vectors.
+
+// The matrix times a vector.
+pub fn mul_vec3(m: Mat3, v: Vec3) -> Vec3
+    ensures { λ r. ⌜ r ≡ mulMat3Vec3 m v ⌝ }
+{
+    let d = m.data;
+    Vec3 {
+        x: d[0] * v.x + d[1] * v.y + d[2] * v.z,
+        y: d[3] * v.x + d[4] * v.y + d[5] * v.z,
+        z: d[6] * v.x + d[7] * v.y + d[8] * v.z,
+    }
+}
+
+// The vector as a column.
+pub fn from_vec3(v: Vec3) -> Vector3
+    ensures { λ r. ⌜ r .data ≡ toArray v ⌝ }
+{
+    Vector3 {
+        data: [v.x, v.y, v.z],
     }
 }

@@ -19,15 +19,15 @@ use Rattle.drifters_real.specs.Real.{isFinite}
 use Rattle.drifters_real.proofs.Real.Rounding.{fit-of, shift, zero-exp, value-unique, neg-round}
 
 -- ---- the operations of two finite numbers, one step open
-add-fin : (f : Format) (s : Bool) (m : ℕ) (e : ℤ) (t : Bool) (n : ℕ) (d : ℤ) → add f (fin s m e) (fin t n d) ≡ sum f s (m * up e * down d) t (n * up d * down e) (down e * down d)
+pub add-fin : (f : Format) (s : Bool) (m : ℕ) (e : ℤ) (t : Bool) (n : ℕ) (d : ℤ) → add f (fin s m e) (fin t n d) ≡ sum f s (m * up e * down d) t (n * up d * down e) (down e * down d)
 unfolding add
 add-fin f s m e t n d = refl
 
-mul-fin : (f : Format) (s : Bool) (m : ℕ) (e : ℤ) (t : Bool) (n : ℕ) (d : ℤ) → mul f (fin s m e) (fin t n d) ≡ round f (unlike s t) (m * up e * (n * up d)) (down e * down d)
+pub mul-fin : (f : Format) (s : Bool) (m : ℕ) (e : ℤ) (t : Bool) (n : ℕ) (d : ℤ) → mul f (fin s m e) (fin t n d) ≡ round f (unlike s t) (m * up e * (n * up d)) (down e * down d)
 unfolding mul
 mul-fin f s m e t n d = refl
 
-down-down : (e d : ℤ) → 0 < down e * down d
+pub down-down : (e d : ℤ) → 0 < down e * down d
 down-down e d = mul-pos (down-pos e) (down-pos d)
 
 -- ---- rounding a number of the format gives it back
@@ -104,7 +104,7 @@ add-no-size {x = fin s (suc m) e} h t d =
     ∙ round-self s (suc m) e (h .fitting))
 
 -- ---- a product with a zero
-plus-zero-is : plusZero ≡ fin false 0 (pos 0)
+pub plus-zero-is : plusZero ≡ fin false 0 (pos 0)
 unfolding ofBits
 plus-zero-is = refl
 

@@ -7,8 +7,8 @@ use borrow.Author.Needs.{needs}
 use lib.ListN.{length, getD, length-set, length-map, List·getD-map}
 use lib.Seq.{ext-getD}
 use lib.Ieee.{Float, binary64, ofBits}
-use Rattle.drifters_core.specs.Matrix.{tab}
-use Rattle.drifters_core.proofs.Matrix.Tab.{length-tab, getD-tab, front, front-zero, step-set, step-done}
+use Rattle.drifters_matrix.specs.Matrix.{tab}
+use Rattle.drifters_matrix.proofs.Matrix.Tab.{length-tab, getD-tab, front, front-zero, step-set, step-done}
 use Rattle.call_sheet.specs.Text.{numbersOf}
 use Rattle.call_sheet.proofs.run.numbers_of.Statement.{statement}
 use Rattle.call_sheet.proofs.run.numbers_of.Tie as tie

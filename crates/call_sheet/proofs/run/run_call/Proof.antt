@@ -5,10 +5,10 @@ use native.Mathlib.Omega.{arith}
 use borrow.Author.Needs.{needs}
 use lib.ListN.{length, take, drop, length-append}
 use lib.Seq.{length-take-le, take-at}
-use Rattle.drifters_core.specs.Matrix.{zeros}
-use Rattle.drifters_eqf.specs.Entry.{writtenLength, Outcome, call}
-use Rattle.drifters_eqf.specs.declared.kind.Kind.{Kind}
-use Rattle.drifters_eqf.specs.declared.kind.Kind.the-variants.{Propagate, Position, Velocity, Direction, General, State}
+use Rattle.drifters_matrix.specs.Matrix.{zeros}
+use Rattle.drifters_entry.specs.Entry.{writtenLength, Outcome, call}
+use Rattle.drifters_entry.specs.declared.kind.Kind.{Kind}
+use Rattle.drifters_entry.specs.declared.kind.Kind.the-variants.{Propagate, Position, Velocity, Direction, General, State}
 use Rattle.call_sheet.proofs.Lines.{written-short}
 use Rattle.call_sheet.proofs.SheetLayout.{call-most}
 use Rattle.call_sheet.proofs.run.run_call.Statement.{statement}

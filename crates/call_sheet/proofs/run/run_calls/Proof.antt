@@ -7,14 +7,14 @@ use native.Mathlib.Omega.{arith}
 use borrow.Author.Needs.{needs}
 use lib.ListN.{length, take, drop, drop-of-length-le}
 use lib.Ieee.{Float}
-use Rattle.drifters_eqf.specs.Entry.{callLength}
-use Rattle.drifters_eqf.specs.Log.{outcome}
+use Rattle.drifters_entry.specs.Entry.{callLength}
+use Rattle.drifters_entry.specs.Log.{outcomeOn, entriesFrom}
 use Rattle.drifters_eqf.specs.declared.filter.Answer.{Answer}
-use Rattle.drifters_eqf.specs.declared.kind.Kind.{Kind}
+use Rattle.drifters_entry.specs.declared.kind.Kind.{Kind}
 use Rattle.call_sheet.specs.Bytes.{placed}
 use Rattle.call_sheet.specs.Sheet.{SheetCall, sheetCall, callsIn, bitsIn}
 use Rattle.call_sheet.specs.Text.{callOf, lineText, linesText}
-use Rattle.call_sheet.proofs.Lines.{kindThere, bits-next, calls-next}
+use Rattle.call_sheet.proofs.Lines.{linesOn, kindThere, bits-next, calls-next}
 use Rattle.call_sheet.proofs.Placed.{Put, put-none, put-then}
 use Rattle.call_sheet.proofs.run.run_calls.Statement.{statement}
 use Rattle.call_sheet.proofs.run.run_calls.Tie as tie
@@ -28,7 +28,7 @@ record Made (run₀ : List Float) (kinds numbers text₀ : List ℕ) (run : List
   text-length : length text ≡ length text₀
   lines : List ℕ
   written : Put text₀ 0 lines text len
-  all : linesText 1 run₀ (callsIn kinds numbers) ≡ lines ++ linesText (i + 1) run (callsIn (drop i kinds) (drop at numbers))
+  all : linesOn 1 run₀ (callsIn kinds numbers) ≡ lines ++ linesOn (i + 1) run (callsIn (drop i kinds) (drop at numbers))
 
 abbrev Inv-loop : tie.InvT-loop
 Inv-loop run₀ kinds numbers text₀ at₀ len₀ i₀ i-end run text at len i = Made run₀ kinds numbers text₀ run text at len i
@@ -52,19 +52,19 @@ none-made run kinds numbers text h =
 
 -- all are made
 all-made : {run₀ run : List Float} {kinds numbers text₀ text : List ℕ} {at len i : ℕ} (m : Made run₀ kinds numbers text₀ run text at len i)
-    → length kinds ≤ i → m .lines ≡ linesText 1 run₀ (callsIn kinds numbers)
-unfolding callsIn linesText
+    → length kinds ≤ i → m .lines ≡ linesOn 1 run₀ (callsIn kinds numbers)
+unfolding callsIn linesText entriesFrom
 all-made {run₀} {run} {kinds} {numbers} {at = at} {i = i} m h =
     let none-left : drop i kinds ≡ [] = drop-of-length-le kinds h in
-    sym (m .all ∙ ap (λ (ks : List ℕ). m .lines ++ linesText (i + 1) run (callsIn ks (drop at numbers))) none-left ∙ append-nil (m .lines))
+    sym (m .all ∙ ap (λ (ks : List ℕ). m .lines ++ linesOn (i + 1) run (callsIn ks (drop at numbers))) none-left ∙ append-nil (m .lines))
 
 -- what a turn of the loop does: the call at place i, and its line
 record Turn (kinds numbers : List ℕ) (run : List Float) (text : List ℕ) (at len i : ℕ) (kind : Kind) (n : ℕ) (answer : Answer)
     (run′ : List Float) (text′ : List ℕ) (len′ : ℕ) : Type 0 where
   is-kind : kind ≡ kindThere kinds i
   is-length : n ≡ callLength kind
-  is-answer : answer ≡ outcome run (callOf (sheetCall kind (take (at + n - at) (drop at numbers)))) .answer
-  is-run : run′ ≡ outcome run (callOf (sheetCall kind (take (at + n - at) (drop at numbers)))) .run
+  is-answer : answer ≡ outcomeOn run (callOf (sheetCall kind (take (at + n - at) (drop at numbers)))) .answer
+  is-run : run′ ≡ outcomeOn run (callOf (sheetCall kind (take (at + n - at) (drop at numbers)))) .run
   is-text : text′ ≡ placed text len (lineText (i + 1) kind answer)
   is-end : len′ ≡ len + length (lineText (i + 1) kind answer)
   short : len′ ≤ len + 23
@@ -75,15 +75,15 @@ record Turn (kinds numbers : List ℕ) (run : List Float) (text : List ℕ) (at 
 one-made : {run₀ run run′ : List Float} {kinds numbers text₀ text text′ : List ℕ} {at len len′ i n : ℕ} {kind : Kind} {answer : Answer}
     → Made run₀ kinds numbers text₀ run text at len i → i < length kinds → Turn kinds numbers run text at len i kind n answer run′ text′ len′
     → Made run₀ kinds numbers text₀ run′ text′ (at + n) len′ (i + 1)
-unfolding linesText
+unfolding linesText entriesFrom
 one-made {run₀} {run} {run′} {kinds} {numbers} {text₀} {text} {text′} {at} {len} {len′} {i} {n} {kind} {answer} m h t =
     let there = kindThere kinds i in
     let count : n ≡ callLength there = t .is-length ∙ ap callLength (t .is-kind) in
     let part : at + n - at ≡ callLength there = omega arith in
     let called = sheetCall there (take (callLength there) (drop at numbers)) in
     let is-called : sheetCall kind (take (at + n - at) (drop at numbers)) ≡ called = λ j. sheetCall (t .is-kind j) (take (part j) (drop at numbers)) in
-    let is-answer = t .is-answer ∙ ap (λ (c : SheetCall). outcome run (callOf c) .answer) is-called in
-    let is-run = t .is-run ∙ ap (λ (c : SheetCall). outcome run (callOf c) .run) is-called in
+    let is-answer = t .is-answer ∙ ap (λ (c : SheetCall). outcomeOn run (callOf c) .answer) is-called in
+    let is-run = t .is-run ∙ ap (λ (c : SheetCall). outcomeOn run (callOf c) .run) is-called in
     let line = lineText (i + 1) kind answer in
     let left : ℕ → List SheetCall = λ m. callsIn (drop (i + 1) kinds) (drop (at + m) numbers) in
     record {
@@ -95,9 +95,9 @@ one-made {run₀} {run} {run′} {kinds} {numbers} {text₀} {text} {text′} {a
       lines = m .lines ++ line;
       written = put-then line (m .written) (t .is-end) (t .is-text);
       all =
-          m .all ∙ ap (λ (cs : List SheetCall). m .lines ++ linesText (i + 1) run cs) (calls-next kinds i h numbers at)
+          m .all ∙ ap (λ (cs : List SheetCall). m .lines ++ linesOn (i + 1) run cs) (calls-next kinds i h numbers at)
           ∙ sym (append-assoc (m .lines) _ _)
-          ∙ sym (λ j. m .lines ++ lineText (i + 1) (t .is-kind j) (is-answer j) ++ linesText (i + 1 + 1) (is-run j) (left (count j)));
+          ∙ sym (λ j. m .lines ++ lineText (i + 1) (t .is-kind j) (is-answer j) ++ linesOn (i + 1 + 1) (is-run j) (left (count j)));
     }
 
 -- the numbers of a call lie within those of all

@@ -9,13 +9,14 @@ use borrow.Author.Needs.{needs}
 use lib.ListN.{length, take, drop, replicate, length-append, length-map}
 use lib.Seq.{take-at}
 use lib.Ieee.{Float}
-use Rattle.drifters_eqf.specs.Entry.{kindNumber}
+use Rattle.drifters_entry.specs.Entry.{kindNumber}
 use Rattle.call_sheet.specs.declared.sheet.Filled.{Filled}
 use Rattle.call_sheet.specs.declared.sheet.Filled.the-variants.{Length, Refused}
 use Rattle.call_sheet.specs.Bytes.{placed}
 use Rattle.call_sheet.specs.Sheet.{Sheet, readSheet, mostCalls, kindsOf, bitsOf, Runs, runs, inRuns, callsIn, bitsIn, Held}
-use Rattle.call_sheet.specs.Text.{refusedLine, numbersOf, linesText, textOf, sheetText, printed}
+use Rattle.call_sheet.specs.Text.{refusedLine, numbersOf, textOf, sheetText, printed}
 use Rattle.call_sheet.proofs.Held.{sheetsHeld}
+use Rattle.call_sheet.proofs.Lines.{linesOn}
 use Rattle.call_sheet.proofs.TextLength.{isLength, numberIn, room, no-room}
 use Rattle.call_sheet.proofs.SheetLayout.{sheet-read, read-fitting}
 use Rattle.call_sheet.proofs.run.run_sheet.Statement.{statement}
@@ -74,11 +75,11 @@ module _ {s : List ℕ} {n : ℕ} {filter kinds numbers : List ℕ} (r : Read s 
       let sizes = sheet-read s refl (r .sheet) (r .is) .calls .sizes in
       omega (arith, ap bitsIn (r .is-kinds), sizes, ap length (r .is-numbers), length-append (bitsOf calls) (r .others))
 
-  text : {run : List Float} → run ≡ numbersOf filter → linesText 1 run (callsIn (take n kinds) numbers) ≡ sheetText s
+  text : {run : List Float} → run ≡ numbersOf filter → linesOn 1 run (callsIn (take n kinds) numbers) ≡ sheetText s
   unfolding sheetText
   text e =
-      (λ i. linesText 1 ((e ∙ ap numbersOf (r .is-filter)) i) (callsIn (r .is-kinds i) (r .is-numbers i)))
-      ∙ ap (linesText 1 (numbersOf (r .sheet .filter))) (held .back (r .others)) ∙ sym (ap textOf (r .is))
+      (λ i. linesOn 1 ((e ∙ ap numbersOf (r .is-filter)) i) (callsIn (r .is-kinds i) (r .is-numbers i)))
+      ∙ ap (linesOn 1 (numbersOf (r .sheet .filter))) (held .back (r .others)) ∙ sym (ap textOf (r .is))
 
 -- n zeros
 abbrev zeros : ℕ → List ℕ

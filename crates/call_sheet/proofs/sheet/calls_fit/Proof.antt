@@ -5,7 +5,7 @@ use mathlib.Core.Logic.{⊎-elim}
 use native.Mathlib.Omega.{arith}
 use borrow.Author.Needs.{needs}
 use borrow.Author.Tests.{ltb-true, ltb-false}
-use Rattle.drifters_eqf.specs.Entry.{callLength}
+use Rattle.drifters_entry.specs.Entry.{callLength}
 use Rattle.call_sheet.specs.Sheet.{filterEnd, callsAt, isSome}
 use Rattle.call_sheet.proofs.SheetLayout.{call-most, no-calls, calls-step, calls-end}
 use Rattle.call_sheet.proofs.sheet.calls_fit.Statement.{statement}

@@ -5,9 +5,9 @@ use mathlib.Core.Option.{none, some}
 use Prim.Native.Nat.{ℕ}
 use lib.Dec.{eqb}
 use borrow.Author.Tests.{ne-eqb}
-use Rattle.drifters_eqf.specs.Entry.{kindNumber}
-use Rattle.drifters_eqf.specs.declared.kind.Kind.{Kind}
-use Rattle.drifters_eqf.specs.declared.kind.Kind.the-variants.{Propagate, Position, Velocity, Direction, General, State}
+use Rattle.drifters_entry.specs.Entry.{kindNumber}
+use Rattle.drifters_entry.specs.declared.kind.Kind.{Kind}
+use Rattle.drifters_entry.specs.declared.kind.Kind.the-variants.{Propagate, Position, Velocity, Direction, General, State}
 use Rattle.call_sheet.specs.Sheet.{findKind, foundKind, kindOf}
 use Rattle.call_sheet.proofs.KindNumbers.{kind-of-number}
 use Rattle.call_sheet.proofs.sheet.kind_of.Statement.{statement}

@@ -4,7 +4,7 @@ use mathlib.Core.List.{List}
 use Prim.Native.Nat.{ℕ, _+_, _-_, _*_, _≤_}
 use native.Mathlib.Omega.{arith}
 use lib.ListN.{length, length-set}
-use Rattle.drifters_core.proofs.Matrix.Tab.{front, front-zero, step-set, step-done}
+use Rattle.drifters_matrix.proofs.Matrix.Tab.{front, front-zero, step-set, step-done}
 use Rattle.call_sheet.specs.Bytes.{u32At}
 use Rattle.call_sheet.specs.Sheet.{kindAt}
 use Rattle.call_sheet.proofs.sheet.read_kinds.Statement.{statement}

@@ -10,7 +10,7 @@ use borrow.Author.Needs.{needs}
 use borrow.Author.Tests.{ltb-true, ltb-false, not-true, not-false}
 use lib.ListN.{length, take, drop, length-map}
 use lib.Seq.{length-take-le}
-use Rattle.drifters_core.specs.Matrix.{tab}
+use Rattle.drifters_matrix.specs.Matrix.{tab}
 use Rattle.call_sheet.specs.declared.sheet.Filled.the-variants.{Length}
 use Rattle.call_sheet.specs.Bytes.{u64sAt, placed}
 use Rattle.call_sheet.specs.Sheet.{

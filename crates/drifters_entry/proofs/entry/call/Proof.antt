@@ -4,8 +4,8 @@ use borrow.Author.Needs.{needs}
 use borrow.Author.Tests.{eqb-true, not-false}
 use lib.Dec.{eqb}
 use lib.ListN.{length}
-use Rattle.drifters_eqf.specs.Entry.{callLength, writtenLength}
-use Rattle.drifters_eqf.specs.declared.kind.Kind.the-variants.{Propagate, Position, Velocity, Direction, General}
+use Rattle.drifters_entry.specs.Entry.{callLength, writtenLength}
+use Rattle.drifters_entry.specs.declared.kind.Kind.the-variants.{Propagate, Position, Velocity, Direction, General}
 use Rattle.drifters_entry.proofs.Calls.{lengths-differ, call-lengths, call-of, call-state}
 use Rattle.drifters_entry.proofs.entry.call.Statement.{statement}
 use Rattle.drifters_entry.proofs.entry.call.Tie as tie

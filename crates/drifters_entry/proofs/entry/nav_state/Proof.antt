@@ -6,13 +6,13 @@ use borrow.Author.Needs.{needs}
 use borrow.Author.Tests.{eqb-true, eq-eqb, not-true, not-false}
 use lib.Dec.{eqb}
 use lib.ListN.{length}
-use Rattle.drifters_core.specs.Matrix.{allFinite}
+use Rattle.drifters_matrix.specs.Matrix.{allFinite}
 use Rattle.drifters_eqf.specs.Answer.{rangeRefusal}
 use Rattle.drifters_eqf.specs.Filter.{navState}
-use Rattle.drifters_eqf.specs.Run.{filterLength, stateLength, stateToRun}
-use Rattle.drifters_eqf.specs.Entry.{outcome, performed, refused, settled, call}
+use Rattle.drifters_entry.specs.Run.{filterLength, stateLength, stateToRun}
+use Rattle.drifters_entry.specs.Entry.{outcome, performed, refused, settled, call}
 use Rattle.drifters_eqf.specs.declared.filter.Answer.the-variants.{Fine}
-use Rattle.drifters_eqf.specs.declared.kind.Kind.the-variants.{State}
+use Rattle.drifters_entry.specs.declared.kind.Kind.the-variants.{State}
 use Rattle.drifters_entry.proofs.Calls.{lengths-differ}
 use Rattle.drifters_entry.proofs.entry.nav_state.Statement.{statement}
 use Rattle.drifters_entry.proofs.entry.nav_state.Tie as tie

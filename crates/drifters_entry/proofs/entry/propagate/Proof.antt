@@ -2,8 +2,8 @@
 use mathlib.Core.Path.{refl}
 use native.Mathlib.Omega.{arith}
 use borrow.Author.Needs.{needs}
-use Rattle.drifters_eqf.specs.Entry.{performed}
-use Rattle.drifters_eqf.specs.declared.kind.Kind.the-variants.{Propagate}
+use Rattle.drifters_entry.specs.Entry.{performed}
+use Rattle.drifters_entry.specs.declared.kind.Kind.the-variants.{Propagate}
 use Rattle.drifters_entry.proofs.Calls.{Passed, passed, call-refused, call-passed}
 use Rattle.drifters_entry.proofs.entry.propagate.Statement.{statement}
 use Rattle.drifters_entry.proofs.entry.propagate.Tie as tie

@@ -5,12 +5,12 @@ use native.Mathlib.Omega.{arith}
 use borrow.Author.Needs.{needs}
 use lib.ListN.{length}
 use lib.Ieee.{Float}
-use Rattle.drifters_core.specs.Matrix.{tab}
+use Rattle.drifters_matrix.specs.Matrix.{tab}
 use Rattle.drifters_core.specs.Vec3.{toArray}
-use Rattle.drifters_symmetry.specs.Lie.{vec3At}
-use Rattle.drifters_eqf.specs.Run.{part}
-use Rattle.drifters_eqf.specs.Entry.{callLength, performed}
-use Rattle.drifters_eqf.specs.declared.kind.Kind.the-variants.{General}
+use Rattle.drifters_lie.specs.Lie.{vec3At}
+use Rattle.drifters_entry.specs.Run.{part}
+use Rattle.drifters_entry.specs.Entry.{callLength, performed}
+use Rattle.drifters_entry.specs.declared.kind.Kind.the-variants.{General}
 use Rattle.drifters_entry.proofs.Parts.{tab-part}
 use Rattle.drifters_entry.proofs.Calls.{Passed, passed, call-refused, call-passed}
 use Rattle.drifters_entry.proofs.entry.update.Statement.{statement}

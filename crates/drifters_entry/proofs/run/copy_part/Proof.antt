@@ -4,7 +4,7 @@ use Prim.Native.Nat.{_+_, _-_}
 use native.Mathlib.Omega.{arith}
 use lib.Ieee.{nan}
 use lib.ListN.{length, getD}
-use Rattle.drifters_core.proofs.Matrix.Elements.{Mapped, mapped-none, mapped-set, mapped-done}
+use Rattle.drifters_matrix.proofs.Matrix.Elements.{Mapped, mapped-none, mapped-set, mapped-done}
 use Rattle.drifters_entry.proofs.Parts.{tab-part}
 use Rattle.drifters_entry.proofs.run.copy_part.Statement.{statement}
 use Rattle.drifters_entry.proofs.run.copy_part.Tie as tie

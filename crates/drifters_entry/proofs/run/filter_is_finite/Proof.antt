@@ -4,11 +4,11 @@ use mathlib.Core.Bool.{Bool, _&&_}
 use mathlib.Core.List.{_++_}
 use borrow.Author.Needs.{needs}
 use Rattle.drifters_real.specs.Real.{isFinite}
-use Rattle.drifters_core.specs.Matrix.{allFinite}
+use Rattle.drifters_matrix.specs.Matrix.{allFinite}
 use Rattle.drifters_core.specs.Vec3.{toArray, finiteVec3}
-use Rattle.drifters_symmetry.specs.Lie.{toArraySe3}
+use Rattle.drifters_lie.specs.Lie.{toArraySe3}
 use Rattle.drifters_eqf.specs.Filter.{filterOf}
-use Rattle.drifters_eqf.specs.Run.{poseNumbers, toRun}
+use Rattle.drifters_entry.specs.Run.{poseNumbers, toRun}
 use Rattle.drifters_eqf.specs.declared.filter.EqFilter.{EqFilter}
 use Rattle.drifters_entry.proofs.Parts.{allFinite-append, allFinite-vec3, allFinite-one}
 use Rattle.drifters_entry.proofs.run.filter_is_finite.Statement.{statement}

@@ -2,7 +2,7 @@
 use borrow.Author.Needs.{needs}
 use lib.ListN.{getD}
 use lib.Ieee.{nan}
-use Rattle.drifters_eqf.specs.Run.{alphaPlace, fromRun}
+use Rattle.drifters_entry.specs.Run.{alphaPlace, fromRun}
 use Rattle.drifters_entry.proofs.run.from_run.Statement.{statement}
 use Rattle.drifters_entry.proofs.run.from_run.Tie as tie
 

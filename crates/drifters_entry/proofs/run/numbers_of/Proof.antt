@@ -5,10 +5,10 @@ use borrow.Author.Needs.{needs}
 use lib.Dec.{lit<}
 use lib.ListN.{length, getD}
 use lib.Ieee.{Float, nan}
-use Rattle.drifters_core.specs.Matrix.{tab}
+use Rattle.drifters_matrix.specs.Matrix.{tab}
 use Rattle.drifters_core.specs.Vec3.{toArray}
-use Rattle.drifters_symmetry.specs.Lie.{toArraySe3}
-use Rattle.drifters_core.proofs.Matrix.Tab.{tab-is}
+use Rattle.drifters_lie.specs.Lie.{toArraySe3}
+use Rattle.drifters_matrix.proofs.Matrix.Tab.{tab-is}
 use Rattle.drifters_entry.proofs.run.numbers_of.Statement.{statement}
 use Rattle.drifters_entry.proofs.run.numbers_of.Tie as tie
 

@@ -1,6 +1,6 @@
 -- `run::state_from_run` meets its contract.
 use borrow.Author.Needs.{needs}
-use Rattle.drifters_eqf.specs.Run.{fromRun, stateFromRun}
+use Rattle.drifters_entry.specs.Run.{fromRun, stateFromRun}
 use Rattle.drifters_entry.proofs.run.state_from_run.Statement.{statement}
 use Rattle.drifters_entry.proofs.run.state_from_run.Tie as tie
 

@@ -1,6 +1,6 @@
 -- `run::state_is_finite` meets its contract.
 use borrow.Author.Needs.{needs}
-use Rattle.drifters_eqf.specs.Run.{stateToRun}
+use Rattle.drifters_entry.specs.Run.{stateToRun}
 use Rattle.drifters_entry.proofs.run.state_is_finite.Statement.{statement}
 use Rattle.drifters_entry.proofs.run.state_is_finite.Tie as tie
 

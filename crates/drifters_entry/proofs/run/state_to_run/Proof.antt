@@ -1,6 +1,6 @@
 -- `run::state_to_run` meets its contract.
 use borrow.Author.Needs.{needs}
-use Rattle.drifters_eqf.specs.Run.{stateToRun}
+use Rattle.drifters_entry.specs.Run.{stateToRun}
 use Rattle.drifters_entry.proofs.run.state_to_run.Statement.{statement}
 use Rattle.drifters_entry.proofs.run.state_to_run.Tie as tie
 

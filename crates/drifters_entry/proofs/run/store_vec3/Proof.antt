@@ -4,8 +4,8 @@ use mathlib.Core.List.{List, [], _∷_}
 use borrow.Author.Needs.{needs}
 use lib.Ieee.{Float, nan}
 use lib.ListN.{length, getD, set}
-use Rattle.drifters_core.specs.Matrix.{tab}
-use Rattle.drifters_core.proofs.Matrix.Tab.{tab-is}
+use Rattle.drifters_matrix.specs.Matrix.{tab}
+use Rattle.drifters_matrix.proofs.Matrix.Tab.{tab-is}
 use Rattle.drifters_entry.proofs.run.store_vec3.Statement.{statement}
 use Rattle.drifters_entry.proofs.run.store_vec3.Tie as tie
 

@@ -5,8 +5,8 @@ use native.Mathlib.Omega.{arith}
 use borrow.Author.Needs.{needs}
 use lib.ListN.{length-set}
 use Rattle.drifters_core.specs.Vec3.{toArray}
-use Rattle.drifters_symmetry.specs.Lie.{toArraySe3}
-use Rattle.drifters_eqf.specs.Run.{poseNumbers, toRun}
+use Rattle.drifters_lie.specs.Lie.{toArraySe3}
+use Rattle.drifters_entry.specs.Run.{poseNumbers, toRun}
 use Rattle.drifters_entry.proofs.Parts.{begins-none, begins-next, begins-last}
 use Rattle.drifters_entry.proofs.run.to_run.Statement.{statement}
 use Rattle.drifters_entry.proofs.run.to_run.Tie as tie

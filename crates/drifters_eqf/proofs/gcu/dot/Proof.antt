@@ -1,7 +1,7 @@
 -- `gcu::dot` meets its contract.
 use mathlib.Core.Path.{refl}
 use lib.Dec.{lit<}
-use Rattle.drifters_core.specs.Matrix.{sumTerms}
+use Rattle.drifters_matrix.specs.Matrix.{sumTerms}
 use Rattle.drifters_eqf.specs.Gcu.{dotVector}
 use Rattle.drifters_eqf.proofs.gcu.dot.Statement.{statement}
 use Rattle.drifters_eqf.proofs.gcu.dot.Tie as tie

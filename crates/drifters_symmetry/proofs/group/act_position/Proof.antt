@@ -1,6 +1,6 @@
 -- `act_position` meets its contract.
 use mathlib.Core.Path.{_∙_}
-use Rattle.drifters_core.specs.Matrix.{mulMat3Vec3}
+use Rattle.drifters_core.specs.Vec3.{mulMat3Vec3}
 use Rattle.drifters_symmetry.specs.Group.{actPosition}
 use Rattle.drifters_symmetry.proofs.group.act_position.Statement.{statement}
 use Rattle.drifters_symmetry.proofs.group.act_position.Tie as tie

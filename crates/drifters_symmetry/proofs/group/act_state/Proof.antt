@@ -1,6 +1,6 @@
 -- `act_state` meets its contract.
 use mathlib.Core.Path.{_∙_}
-use Rattle.drifters_core.specs.Matrix.{mulMat3Vec3}
+use Rattle.drifters_core.specs.Vec3.{mulMat3Vec3}
 use Rattle.drifters_symmetry.specs.Group.{actState}
 use Rattle.drifters_symmetry.proofs.group.act_state.Statement.{statement}
 use Rattle.drifters_symmetry.proofs.group.act_state.Tie as tie

@@ -1,6 +1,6 @@
 -- `act_velocity` meets its contract.
 use mathlib.Core.Path.{_∙_}
-use Rattle.drifters_core.specs.Matrix.{mulMat3Vec3}
+use Rattle.drifters_core.specs.Vec3.{mulMat3Vec3}
 use Rattle.drifters_symmetry.specs.Group.{actVelocity}
 use Rattle.drifters_symmetry.proofs.group.act_velocity.Statement.{statement}
 use Rattle.drifters_symmetry.proofs.group.act_velocity.Tie as tie

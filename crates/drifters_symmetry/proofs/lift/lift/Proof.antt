@@ -1,7 +1,7 @@
 -- `lift` meets its contract.
 use mathlib.Core.Path.{ap, _∙_}
-use Rattle.drifters_core.specs.Matrix.{mulMat3Vec3}
-use Rattle.drifters_symmetry.specs.Lie.{pi}
+use Rattle.drifters_core.specs.Vec3.{mulMat3Vec3}
+use Rattle.drifters_lie.specs.Lie.{pi}
 use Rattle.drifters_symmetry.specs.Lift.{lift}
 use Rattle.drifters_symmetry.proofs.lift.lift.Statement.{statement}
 use Rattle.drifters_symmetry.proofs.lift.lift.Tie as tie

@@ -4,14 +4,14 @@ use mathlib.Core.Path.{_≡_}
 use mathlib.Core.List.{List}
 use Prim.Native.Nat.{ℕ}
 use lib.Ieee.{Float}
-use Rattle.drifters_core.specs.Matrix.{setBlock, negMatrix, mulMat3Vec3}
-use Rattle.drifters_core.specs.Vec3.{zeroVec3, skew, addVec3}
+use Rattle.drifters_matrix.specs.Matrix.{setBlock, negMatrix}
+use Rattle.drifters_core.specs.Vec3.{zeroVec3, skew, addVec3, mulMat3Vec3}
 use Rattle.drifters_core.specs.declared.math.vec3.Vec3.{Vec3}
-use Rattle.drifters_core.specs.declared.math.shapes.Mat3.{Mat3}
-use Rattle.drifters_symmetry.specs.Lie.{se23Tangent, pi, adSe3, addSe3, addSe23, adjointApplySe23}
+use Rattle.drifters_matrix.specs.declared.math.shapes.Mat3.{Mat3}
+use Rattle.drifters_lie.specs.Lie.{se23Tangent, pi, adSe3, addSe3, addSe23, adjointApplySe23}
 use Rattle.drifters_symmetry.specs.Linear.{stateMatrix}
-use Rattle.drifters_symmetry.specs.declared.lie.Se23Tangent.{Se23Tangent}
-use Rattle.drifters_symmetry.specs.declared.lie.Se3Tangent.{Se3Tangent}
+use Rattle.drifters_lie.specs.declared.lie.Se23Tangent.{Se23Tangent}
+use Rattle.drifters_lie.specs.declared.lie.Se3Tangent.{Se3Tangent}
 use Rattle.drifters_symmetry.specs.declared.group.Symmetry.{Symmetry}
 use Rattle.drifters_symmetry.specs.declared.lift.Input.{Input}
 use Rattle.drifters_symmetry.proofs.linear.state_matrix.Statement.{statement}

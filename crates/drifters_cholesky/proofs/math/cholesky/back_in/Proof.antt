@@ -6,9 +6,10 @@ use native.Mathlib.Omega.{arith}
 use lib.ListN.{length, length-set}
 use lib.Ieee.{Float}
 use Rattle.drifters_real.specs.Scalar.{_⊘_}
-use Rattle.drifters_core.specs.Matrix.{at, subTerms, backRow, back}
-use Rattle.drifters_core.proofs.Matrix.Place.{Place}
-use Rattle.drifters_core.proofs.Matrix.Grid.{row-in}
+use Rattle.drifters_matrix.specs.Matrix.{at}
+use Rattle.drifters_cholesky.specs.Cholesky.{subTerms, backRow, back}
+use Rattle.drifters_matrix.proofs.Matrix.Place.{Place}
+use Rattle.drifters_matrix.proofs.Matrix.Grid.{row-in}
 use Rattle.drifters_cholesky.proofs.SubTerms.{sub-step-from}
 use Rattle.drifters_cholesky.proofs.Substitution.{RowReplaced, replaced-none, replaced-set, replaced-done, same-terms, back-next}
 use Rattle.drifters_cholesky.proofs.math.cholesky.back_in.Statement.{statement}

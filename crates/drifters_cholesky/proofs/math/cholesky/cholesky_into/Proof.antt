@@ -6,9 +6,10 @@ use Prim.Native.Nat.{ℕ, _+_, _*_, _-_, _≤_}
 use native.Mathlib.Omega.{arith}
 use borrow.Author.Needs.{needs}
 use lib.ListN.{length, set, length-set, length-replicate}
-use Rattle.drifters_core.specs.Matrix.{at, none, lower, cholesky, factorRows, factorColumns, subTerms, reduced}
-use Rattle.drifters_core.proofs.Matrix.Place.{Place}
-use Rattle.drifters_core.proofs.Matrix.Grid.{row-in}
+use Rattle.drifters_matrix.specs.Matrix.{at}
+use Rattle.drifters_cholesky.specs.Cholesky.{none, lower, cholesky, factorRows, factorColumns, subTerms, reduced}
+use Rattle.drifters_matrix.proofs.Matrix.Place.{Place}
+use Rattle.drifters_matrix.proofs.Matrix.Grid.{row-in}
 use Rattle.drifters_cholesky.proofs.SubTerms.{sub-step}
 use Rattle.drifters_cholesky.proofs.Factor.{not-finite-bad, finite-bad, stop, pivot, quotient, factor-rows-next, stops}
 use Rattle.drifters_cholesky.proofs.math.cholesky.cholesky_into.Statement.{statement}

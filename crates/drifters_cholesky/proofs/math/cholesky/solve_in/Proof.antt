@@ -1,6 +1,6 @@
 -- `solve_in` meets its contract. Assumes nothing.
 use borrow.Author.Needs.{needs}
-use Rattle.drifters_core.specs.Matrix.{solve}
+use Rattle.drifters_cholesky.specs.Cholesky.{solve}
 use Rattle.drifters_cholesky.proofs.math.cholesky.solve_in.Statement.{statement}
 use Rattle.drifters_cholesky.proofs.math.cholesky.solve_in.Tie as tie
 

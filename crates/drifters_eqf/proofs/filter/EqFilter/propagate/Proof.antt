@@ -5,15 +5,16 @@ use mathlib.Core.List.{List}
 use borrow.Author.Tests.{not-true, not-false}
 use lib.Ieee.{Float}
 use Rattle.drifters_real.specs.Real.{abs}
-use Rattle.drifters_core.specs.Matrix.{matmul, mulTranspose, scaled, symmetrize, addMatrix}
+use Rattle.drifters_matrix.specs.Matrix.{matmul, mulTranspose, scaled, symmetrize, addMatrix}
 use Rattle.drifters_symmetry.specs.Group.{compose, exp}
 use Rattle.drifters_symmetry.specs.Linear.{stateMatrix}
 use Rattle.drifters_symmetry.specs.declared.group.Symmetry.{Symmetry}
 use Rattle.drifters_symmetry.specs.declared.group.Algebra.{Algebra}
 use Rattle.drifters_symmetry.specs.declared.group.State.{State}
 use Rattle.drifters_symmetry.specs.declared.lift.Input.{Input}
-use Rattle.drifters_eqf.specs.Filter.{turnFits, navState, halfStep, midpoint, fullStep, transition, processNoise, propagatedSigma, propagated, propagate}
-use Rattle.drifters_eqf.specs.declared.filter.ProcessNoise.{ProcessNoise}
+use Rattle.drifters_covariance.specs.Covariance.{transition, processNoise}
+use Rattle.drifters_eqf.specs.Filter.{turnFits, navState, halfStep, midpoint, fullStep, propagatedSigma, propagated, propagate}
+use Rattle.drifters_covariance.specs.declared.covariance.ProcessNoise.{ProcessNoise}
 use Rattle.drifters_eqf.specs.declared.filter.EqFilter.{EqFilter}
 use Rattle.drifters_eqf.specs.declared.filter.Answer.the-variants.{Fine}
 use Rattle.drifters_eqf.proofs.filter.EqFilter.propagate.Statement.{statement}

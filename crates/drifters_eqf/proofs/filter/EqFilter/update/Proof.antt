@@ -4,13 +4,15 @@ use mathlib.Core.Bool.{true}
 use mathlib.Core.List.{List}
 use borrow.Author.Tests.{not-true, not-false}
 use lib.Ieee.{Float}
-use Rattle.drifters_core.specs.Matrix.{transpose, matmul, symmetrize, Factor, cholesky, solve}
+use Rattle.drifters_matrix.specs.Matrix.{transpose, matmul, symmetrize}
+use Rattle.drifters_cholesky.specs.Cholesky.{Factor, cholesky, solve}
 use Rattle.drifters_core.specs.Vec3.{toArray}
 use Rattle.drifters_symmetry.specs.Group.{compose, fromArray21, exp}
 use Rattle.drifters_symmetry.specs.declared.group.Symmetry.{Symmetry}
 use Rattle.drifters_symmetry.specs.declared.group.Algebra.{Algebra}
 use Rattle.drifters_eqf.specs.Gcu.{definite, entriesOf, nis}
-use Rattle.drifters_eqf.specs.Filter.{turnFits, projected, rawFactor, inflatedFactor, gain, correction, joseph, resetSigma, updated, update}
+use Rattle.drifters_covariance.specs.Covariance.{joseph, resetSigma}
+use Rattle.drifters_eqf.specs.Filter.{turnFits, projected, rawFactor, inflatedFactor, gain, correction, updated, update}
 use Rattle.drifters_eqf.specs.declared.filter.EqFilter.{EqFilter}
 use Rattle.drifters_eqf.specs.declared.filter.Answer.the-variants.{Nis}
 use Rattle.drifters_eqf.proofs.Factored.{factored-definite, factored-entries, inflated-at}

@@ -4,7 +4,7 @@ use mathlib.Core.List.{List}
 use Prim.Native.Nat.{ℕ, _-_, _≤_}
 use native.Mathlib.Omega.{arith}
 use lib.Ieee.{Float}
-use Rattle.drifters_core.proofs.Matrix.ByColumns.{firstColumns, no-columns, next-column, all-columns}
+use Rattle.drifters_matrix.proofs.Matrix.ByColumns.{firstColumns, no-columns, next-column, all-columns}
 use Rattle.drifters_symmetry.specs.Group.{toArray21, fromArray21, bracket, unit, ad}
 use Rattle.drifters_symmetry.specs.declared.group.Algebra.{Algebra}
 use Rattle.drifters_symmetry.proofs.group.Algebra.ad.Statement.{statement}

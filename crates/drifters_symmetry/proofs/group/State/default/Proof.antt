@@ -1,6 +1,6 @@
 -- `State::default` meets its contract.
 use Rattle.drifters_core.specs.Vec3.{zeroVec3}
-use Rattle.drifters_symmetry.specs.Lie.{zeroSe3Tangent}
+use Rattle.drifters_lie.specs.Lie.{zeroSe3Tangent}
 use Rattle.drifters_symmetry.proofs.group.State.default.Statement.{statement}
 use Rattle.drifters_symmetry.proofs.group.State.default.Tie as tie
 

@@ -1,7 +1,6 @@
 -- `Symmetry::inverse` meets its contract.
 use mathlib.Core.Path.{ap, _∙_}
-use Rattle.drifters_core.specs.Matrix.{mulMat3Vec3}
-use Rattle.drifters_core.specs.Vec3.{negVec3}
+use Rattle.drifters_core.specs.Vec3.{negVec3, mulMat3Vec3}
 use Rattle.drifters_symmetry.specs.Group.{inverse}
 use Rattle.drifters_symmetry.proofs.group.Symmetry.inverse.Statement.{statement}
 use Rattle.drifters_symmetry.proofs.group.Symmetry.inverse.Tie as tie

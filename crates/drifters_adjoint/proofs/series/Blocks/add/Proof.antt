@@ -1,0 +1,42 @@
+-- `series::Blocks::add` meets its contract.
+use borrow.Author.Needs.{needs}
+use Prim.Native.Nat.{_-_}
+use native.Mathlib.Omega.{arith}
+use lib.Ieee.{nan}
+use lib.ListN.{getD}
+use Rattle.drifters_real.specs.Scalar.{_⊕_}
+use Rattle.drifters_matrix.specs.Matrix.{addMatrix}
+use Rattle.drifters_matrix.proofs.Matrix.Elements.{Mapped, mapped-none, mapped-set, mapped-done}
+use Rattle.drifters_adjoint.proofs.series.Blocks.add.Statement.{statement}
+use Rattle.drifters_adjoint.proofs.series.Blocks.add.Tie as tie
+
+abbrev Inv-loop : tie.InvT-loop
+Inv-loop data₀ rhs k₀ «data» k = Mapped 18 (λ j x. x ⊕ getD rhs j nan) data₀ k «data»
+
+abbrev μ-loop : tie.MeasureT-loop
+μ-loop data₀ rhs k₀ «data» k = 18 - k
+
+loop-holds : tie.Need-loop-holds Inv-loop μ-loop
+loop-holds c = mapped-none (search needs)
+
+returns : tie.Need-returns Inv-loop μ-loop
+unfolding addMatrix
+returns c = mapped-done (c .before .loop .inv) (omega arith)
+
+pub add-spec : {M : Type 1} → statement M
+add-spec =
+    tie.close
+    (tie.spec
+    Inv-loop
+    μ-loop
+    loop-holds
+    (λ c. omega arith)
+    (λ c. omega arith)
+    (λ c. omega arith)
+    (λ c. omega arith)
+    (λ c. omega arith)
+    (λ c. omega arith)
+    (λ c. omega arith)
+    (λ c. omega arith)
+    (λ c. mapped-set (c .before .loop .inv) (omega arith))
+    returns)

@@ -1,0 +1,22 @@
+-- The laws of signs, one for each definition: arguments that are alike but for signs are taken to results that are.
+pub mod Sign
+pub mod Like
+pub mod Compare
+pub mod Round
+pub mod Ops
+pub mod Real
+pub mod Numeral
+pub mod Vec3
+pub mod Matrix
+pub mod Cholesky
+pub mod Quat
+pub mod GroupRecords
+pub mod Lie
+pub mod Group
+pub mod Lift
+pub mod Linear
+pub mod FilterRecords
+pub mod Gcu
+pub mod Filter
+pub mod Run
+pub mod Entry

@@ -1,0 +1,5 @@
+-- What a reader must believe above the code: the half turn, the three demands, and document 01's starred readings.
+pub mod Like
+pub mod Turn
+pub mod Demands
+pub mod Readings

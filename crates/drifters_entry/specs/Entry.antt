@@ -1,0 +1,148 @@
+-- The six kinds of call and the start, on lent runs: their lengths, their answers, and every lent number afterwards. Definitions only.
+use Prim.Native.Nat.{ℕ, _+_}
+use mathlib.Core.Bool.{Bool, _&&_, cond}
+use mathlib.Core.List.{List, []}
+use lib.Dec.{eqb}
+use lib.ListN.{length, getD}
+use lib.Ieee.{Float, nan}
+use Rattle.drifters_matrix.specs.Matrix.{allFinite}
+use Rattle.drifters_eqf.specs.Answer.{lengthRefusal, blankRefusal, rangeRefusal, valuesOf}
+use Rattle.drifters_lie.specs.Lie.{vec3At}
+use Rattle.drifters_covariance.specs.Covariance.{inputAt}
+use Rattle.drifters_eqf.specs.Filter.{new, navState, propagate, Measurement, updateBy, measuredPosition, measuredVelocity, measuredDirection}
+use Rattle.drifters_entry.specs.Run.{filterLength, stateLength, part, fromRun, toRun, stateFromRun, stateToRun}
+use Rattle.drifters_symmetry.specs.declared.lift.Input.{Input}
+use Rattle.drifters_covariance.specs.declared.covariance.ProcessNoise.{ProcessNoise}
+use Rattle.drifters_eqf.specs.declared.filter.EqFilter.{EqFilter}
+use Rattle.drifters_eqf.specs.declared.filter.Answer.{Answer}
+use Rattle.drifters_eqf.specs.declared.filter.Answer.the-variants.{Nis, Fine, Refused}
+use Rattle.drifters_eqf.specs.declared.filter.Answered.{Answered}
+use Rattle.drifters_entry.specs.declared.kind.Kind.{Kind}
+use Rattle.drifters_entry.specs.declared.kind.Kind.the-variants.{Propagate, Position, Velocity, Direction, General, State}
+
+-- the number of a kind
+abbrev pub kindNumber : Kind → ℕ
+kindNumber Propagate = 1
+kindNumber Position = 2
+kindNumber Velocity = 3
+kindNumber Direction = 4
+kindNumber General = 5
+kindNumber State = 6
+
+-- how many numbers a call of a kind has
+abbrev pub callLength : Kind → ℕ
+callLength Propagate = 25
+callLength Position = 12
+callLength Velocity = 15
+callLength Direction = 15
+callLength General = 75
+callLength State = 0
+
+-- how many numbers a call of a kind writes beside the filter
+abbrev pub writtenLength : Kind → ℕ
+writtenLength Propagate = 0
+writtenLength Position = 0
+writtenLength Velocity = 0
+writtenLength Direction = 0
+writtenLength General = 0
+writtenLength State = stateLength
+
+-- how many numbers a start takes: a state, a covariance, gravity
+abbrev pub startLength : ℕ
+startLength = 477
+
+-- what a call asks of the filter: to propagate, to be updated by a measurement of w numbers with its noise, or its estimate
+pub data Request : Type 0 where
+  propagation : Input → Float → ProcessNoise → Request
+  measurement : ℕ → Measurement → List Float → Request
+  estimate : Request
+
+-- eighteen densities from place i on
+abbrev pub processNoiseAt : List Float → ℕ → ProcessNoise
+processNoiseAt v i = record {
+  gyro = vec3At v i;
+  accel = vec3At v (i + 3);
+  «gyro_bias» = vec3At v (i + 6);
+  «accel_bias» = vec3At v (i + 9);
+  lever = vec3At v (i + 12);
+  mag = vec3At v (i + 15);
+}
+
+-- what the numbers v of a call ask of the filter f
+abbrev pub requestOf : Kind → EqFilter → List Float → Request
+requestOf Propagate f v = propagation (inputAt v 0) (getD v 6 nan) (processNoiseAt v 7)
+requestOf Position f v = measurement 3 (measuredPosition f (vec3At v 0)) (part v 3 9)
+requestOf Velocity f v = measurement 3 (measuredVelocity f (vec3At v 0) (vec3At v 3)) (part v 6 9)
+requestOf Direction f v = measurement 3 (measuredDirection f (vec3At v 0) (vec3At v 3)) (part v 6 9)
+requestOf General f v = measurement 3 (record { output = part v 0 63; innovation = part v 63 3 }) (part v 66 9)
+requestOf State f v = estimate
+
+-- an answer, the filter's run, and the run that a state call writes, as they are after a call
+pub record Outcome : Type 0 where
+  pub answer : Answer
+  pub run : List Float
+  pub written : List Float
+
+-- an outcome of its parts
+abbrev pub outcome : Answer → List Float → List Float → Outcome
+outcome answer run written = record { answer = answer; run = run; written = written }
+
+-- an answer with the filter beside it; nothing else is written
+abbrev pub outcomeOf : Answered → List Float → Outcome
+outcomeOf a written = record { answer = a .answer; run = toRun (a .filter); written = written }
+
+-- what is asked, done: before the results are tested
+unfoldable pub performed : Request → EqFilter → List Float → List Float → Outcome
+performed (propagation u dt q) f run written = outcomeOf (propagate f u dt q) written
+performed (measurement w m noise) f run written = outcomeOf (updateBy w f m noise) written
+performed estimate f run written = record { answer = Fine; run = run; written = stateToRun (navState f) }
+
+-- a refusal leaves every lent run as it was
+abbrev pub refused : ℕ → List Float → List Float → Outcome
+refused n run written = record { answer = Refused n; run = run; written = written }
+
+-- the values of an answer and the filter left are finite
+abbrev pub finiteOutcome : Outcome → Bool
+finiteOutcome o = allFinite (valuesOf (o .answer) (o .written)) && allFinite (o .run)
+
+-- an outcome, where it is finite
+abbrev pub ifFinite : Outcome → List Float → List Float → Outcome
+ifFinite o run written = cond (finiteOutcome o) o (refused rangeRefusal run written)
+
+-- an outcome as it is given out: a refusal, or what is finite
+abbrev pub settledAs : Answer → Outcome → List Float → List Float → Outcome
+settledAs (Nis x) o run written = ifFinite o run written
+settledAs Fine o run written = ifFinite o run written
+settledAs (Refused n) o run written = refused n run written
+
+-- an outcome, settled by its own answer
+unfoldable pub settled : Outcome → List Float → List Float → Outcome
+settled o run written = settledAs (o .answer) o run written
+
+-- every lent run of a call has its stated length; where a call writes nothing beside the filter, `written` is empty
+abbrev pub lengthsFit : Kind → List Float → List Float → List Float → Bool
+lengthsFit kind run v written = eqb (length run) filterLength && eqb (length v) (callLength kind) && eqb (length written) (writtenLength kind)
+
+-- the number of the refusal, by length or blank, of a filter's run and numbers v that are to be n; 0 where there is none
+abbrev pub firstRefusal : ℕ → List Float → List Float → ℕ
+firstRefusal n run v = cond (eqb (length run) filterLength && eqb (length v) n) (cond (allFinite run && allFinite v) 0 blankRefusal) lengthRefusal
+
+-- a call of a kind with the numbers v, on the filter's run; `written` is the run that a state call writes
+unfoldable pub call : Kind → List Float → List Float → List Float → Outcome
+call kind run v written =
+    cond (lengthsFit kind run v written)
+    (cond (allFinite run && allFinite v)
+    (settled (performed (requestOf kind (fromRun run) v) (fromRun run) run written) run written)
+    (refused blankRefusal run written))
+    (refused lengthRefusal run written)
+
+-- a filter's run from the 477 numbers of a start
+unfoldable pub started : List Float → List Float
+started v = toRun (new (stateFromRun v) (part v stateLength 441) (vec3At v (stateLength + 441)))
+
+-- a start with the numbers v; what the filter's run held before does not matter
+unfoldable pub start : List Float → List Float → Outcome
+start run v =
+    cond (eqb (length run) filterLength && eqb (length v) startLength)
+    (cond (allFinite v) (settled (record { answer = Fine; run = started v; written = [] }) run []) (refused blankRefusal run []))
+    (refused lengthRefusal run [])

@@ -1,0 +1,2 @@
+-- What a reader must believe of matrices.
+pub mod Matrix

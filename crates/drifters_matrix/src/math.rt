@@ -1,0 +1,4 @@
+// Matrices.
+pub mod lent;
+pub mod matrix;
+pub mod shapes;

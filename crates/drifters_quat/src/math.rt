@@ -1,0 +1,2 @@
+// Quaternions.
+pub mod quat;

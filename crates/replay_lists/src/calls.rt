@@ -1,0 +1,35 @@
+// One call, and what it leaves.
+use crate::digest::digest;
+use crate::outcome::Outcome;
+use crate::outcome::UNTOUCHED;
+use drifters_entry::entry::STATE_LENGTH;
+use drifters_entry::entry::call;
+use drifters_entry::entry::call_length;
+use drifters_entry::entry::written_length;
+use drifters_entry::kind::Kind;
+
+// The most numbers of a call.
+pub const MOST_CALL_NUMBERS: usize = 75;
+
+// The digest of the run that was lent for a state. It comes as an array, so that its length is known.
+fn state_digest(state: &[f64; STATE_LENGTH]) -> u64 {
+    digest(state)
+}
+
+// The run lent for a state, before a call.
+fn untouched() -> [f64; STATE_LENGTH] {
+    [UNTOUCHED; STATE_LENGTH]
+}
+
+// Makes a call by the first of some numbers.
+pub fn run_call(kind: Kind, run: &mut [f64], numbers: [f64; MOST_CALL_NUMBERS]) -> Outcome {
+    let mut state = untouched();
+    let n = call_length(kind);
+    let m = written_length(kind);
+    let answer = call(kind, run, &numbers[..n], &mut state[..m]);
+    Outcome {
+        answer,
+        state: state_digest(&state),
+        filter: digest(run),
+    }
+}

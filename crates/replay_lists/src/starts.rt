@@ -1,0 +1,65 @@
+// The starts of a file against the original's answers, which stand beside the numbers of each.
+ghost use Prim.Native.Nat.{_+_, _*_, _≤_};
+ghost use lib.ListN.{length};
+use crate::bytes::numbers_at;
+use crate::digest::digest;
+use crate::outcome::Outcome;
+use crate::outcome::UNTOUCHED;
+use crate::tally::Tally;
+use crate::tally::unread;
+use drifters_entry::entry::FILTER_LENGTH;
+use drifters_entry::entry::start;
+use sheet_file::read_file;
+
+// How many starts the file has.
+const STARTS: usize = 24;
+
+// The bytes of a start's 477 numbers.
+const NUMBERS_BYTES: usize = 3816;
+
+// The bytes of a start with its answer.
+const START_BYTES: usize = 3848;
+
+// Starts a filter by the numbers from a place on.
+fn run_start(s: &[u8], at: usize) -> Outcome
+    requires { ⌜ at + 3848 ≤ length (now s) ⌝ }
+{
+    let mut numbers = [0.0; 477];
+    numbers_at(s, at, &mut numbers);
+    let mut run = [UNTOUCHED; FILTER_LENGTH];
+    let answer = start(&mut run, &numbers);
+    Outcome {
+        answer,
+        state: 0,
+        filter: digest(&run),
+    }
+}
+
+// Makes each start, all on a run of their own.
+fn run_starts(s: &[u8]) -> Tally
+    requires { ⌜ 24 * 3848 ≤ length (now s) ⌝ }
+{
+    let mut t = Tally::none();
+    for i in 0..STARTS {
+        let outcome = run_start(s, START_BYTES * i);
+        t = t.compare(outcome, s, START_BYTES * i + NUMBERS_BYTES);
+    }
+    t
+}
+
+// Room for the file.
+fn room() -> [u8; START_BYTES * STARTS] {
+    [0; START_BYTES * STARTS]
+}
+
+// Replays the file of the starts.
+pub fn replay_starts(name: &[u8], path: &[u8]) -> Tally {
+    let mut s = room();
+    let n = read_file(path, &mut s);
+    if n != START_BYTES * STARTS {
+        return unread(name);
+    }
+    let t = run_starts(&s);
+    t.print(name);
+    t
+}

@@ -1,0 +1,2 @@
+-- What a reader must believe of reading a file.
+pub mod Counted
