@@ -45,8 +45,8 @@ def content(name):
 
 class Build(unittest.TestCase):
     def test_the_repositorys_sheets(self):
-        for text, data in [("sheet/sheet.txt", "sheet/data/sheet.bin"), ("sheets/flight.txt", "sheets/data/flight.bin"),
-                           ("sheets/overflow.txt", "sheets/data/overflow.bin")]:
+        for text, data in [("sheet/sheet.txt", "sheet/data/sheet.bin"), ("sheet_cases/flight.txt", "sheet_cases/data/flight.bin"),
+                           ("sheet_cases/overflow.txt", "sheet_cases/data/overflow.bin")]:
             with tempfile.TemporaryDirectory() as folder:
                 made = os.path.join(folder, "sheet.bin")
                 sheet.main(["build", path(text), made])

@@ -16,7 +16,7 @@ use Rattle.drifters_matrix.specs.Matrix.{tab}
 use Rattle.drifters_matrix.proofs.Matrix.Tab.{length-tab, tab-add}
 use Rattle.drifters_eqf.specs.Answer.{lengthRefusal}
 use Rattle.drifters_entry.specs.Entry.{kindNumber, callLength}
-use Rattle.drifters_entry.specs.Run.{filterLength}
+use Rattle.drifters_entry.specs.Layout.{filterLength}
 use Rattle.drifters_entry.specs.declared.kind.Kind.{Kind}
 use Rattle.drifters_entry.specs.declared.kind.Kind.the-variants.{Propagate, Position, Velocity, Direction, General, State}
 use Rattle.call_sheet.specs.declared.sheet.Filled.the-variants.{Refused}

@@ -7,7 +7,7 @@ use mathlib.Core.Option.{Option, none, some}
 use lib.Dec.{eqb, leb}
 use lib.ListN.{length, take, drop}
 use Rattle.drifters_eqf.specs.Answer.{lengthRefusal, sheetRefusal}
-use Rattle.drifters_entry.specs.Run.{filterLength}
+use Rattle.drifters_entry.specs.Layout.{filterLength}
 use Rattle.drifters_entry.specs.Entry.{kindNumber, callLength}
 use Rattle.drifters_entry.specs.declared.kind.Kind.{Kind}
 use Rattle.drifters_entry.specs.declared.kind.Kind.the-variants.{Propagate, Position, Velocity, Direction, General, State}

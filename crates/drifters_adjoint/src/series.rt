@@ -10,7 +10,7 @@ use drifters_matrix::math::matrix::all_finite;
 use drifters_matrix::math::shapes::Mat6;
 
 // The identity, and the terms 1 to 15 of the series of m added to it.
-fn sum_terms(m: Mat6) -> Mat6
+fn matrix_series(m: Mat6) -> Mat6
     ensures { λ r. ⌜ r .data ≡ series (m .data) 15 ⌝ }
 {
     let mut term = Mat6::identity();
@@ -158,7 +158,7 @@ impl Blocks {
     }
 
     // The series of m.
-    fn sum_series(m: Blocks) -> Blocks
+    fn series(m: Blocks) -> Blocks
         ensures { λ r. ⌜ r .data ≡ blocksSeries (m .data) 15 ⌝ }
     {
         let mut term = Blocks::identity();
@@ -176,9 +176,9 @@ pub(crate) fn sum_series(w: Se3Tangent) -> Mat6
     ensures { λ r. ⌜ r .data ≡ series (adSe3 w) 15 ⌝ }
 {
     let m = Blocks::ad(w);
-    let psi = Blocks::sum_series(m);
+    let psi = Blocks::series(m);
     if all_finite(&m.data) & all_finite(&psi.data) {
         return psi.whole();
     }
-    sum_terms(w.ad())
+    matrix_series(w.ad())
 }

@@ -10,15 +10,15 @@ ghost use Rattle.drifters_symmetry.specs.Lift.{lift};
 ghost use Rattle.drifters_covariance.specs.Covariance.{transition, inputAt, inputColumn, biasColumn, noiseMap, psd, processNoise, joseph, resetSigma};
 use drifters_core::math::vec3::Vec3;
 use drifters_lie::lie::Se3Tangent;
-use drifters_matrix::math::lent::add_scaled21;
-use drifters_matrix::math::lent::add21;
-use drifters_matrix::math::lent::matmul21;
-use drifters_matrix::math::lent::mul_transpose21;
-use drifters_matrix::math::lent::scale21;
-use drifters_matrix::math::lent::set_column6;
-use drifters_matrix::math::lent::set_column21x6;
-use drifters_matrix::math::lent::sub21;
-use drifters_matrix::math::lent::transpose21;
+use drifters_matrix::math::in_place::add_scaled21;
+use drifters_matrix::math::in_place::add21;
+use drifters_matrix::math::in_place::matmul21;
+use drifters_matrix::math::in_place::mul_transpose21;
+use drifters_matrix::math::in_place::scale21;
+use drifters_matrix::math::in_place::set_column6;
+use drifters_matrix::math::in_place::set_column21x6;
+use drifters_matrix::math::in_place::sub21;
+use drifters_matrix::math::in_place::transpose21;
 use drifters_matrix::math::shapes::Mat3;
 use drifters_matrix::math::shapes::Mat3x21;
 use drifters_matrix::math::shapes::Mat6;
@@ -181,7 +181,7 @@ pub fn joseph(sigma: &[f64; 441], gain: Mat21x3, c: Mat3x21, noise: Mat3) -> Mat
     let kc = gain.matmul21(c);
     sub21(&mut ikc, &kc.data);
     let mut carried = [0.0; 441];
-    carry(&ikc, sigma, &mut carried);
+    congruence(&ikc, sigma, &mut carried);
     let spread = gain.matmul3(noise).mul_transpose(gain);
     add21(&mut carried, &spread.data);
     Mat21 { data: carried }
@@ -195,12 +195,12 @@ pub fn reset(step: Algebra, sigma: &[f64; 441], out: &mut [f64; 441])
     let mut m = one.data;
     let ad = step.ad();
     add_scaled21(&mut m, &ad.data, 0.5);
-    carry(&m, sigma, out);
+    congruence(&m, sigma, out);
 }
 
 // The covariance carried by `m`, m Σ mᵀ, into `out`. The matrices are lent, so that none is copied. The second product is made as the
 // transpose of m (m Σ)ᵀ, which has the same bits, so that the zeros of m, which has many, are skipped in both.
-pub fn carry(m: &[f64; 441], sigma: &[f64; 441], out: &mut [f64; 441])
+pub fn congruence(m: &[f64; 441], sigma: &[f64; 441], out: &mut [f64; 441])
     ensures { λ _. ⌜ now (out .exit) ≡ mulTranspose 21 21 21 (matmul 21 21 21 (now (m .entry)) (now (sigma .entry))) (now (m .entry)) ⌝ }
 {
     let mut product = [0.0; 441];

@@ -18,5 +18,5 @@ pub mod Linear
 pub mod FilterRecords
 pub mod Gcu
 pub mod Filter
-pub mod Run
+pub mod Layout
 pub mod Entry

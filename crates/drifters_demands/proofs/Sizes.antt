@@ -11,7 +11,7 @@ use Rattle.drifters_lie.specs.Lie.{composeSe23}
 use Rattle.drifters_symmetry.specs.Group.{compose, actState}
 use Rattle.drifters_eqf.specs.Gcu.{definite}
 use Rattle.drifters_eqf.specs.Filter.{turnFits, navState, halfStep, fullStep, propagatedSigma, propagated, propagate, rawFactor, inflatedFactor, gain, correction, updated, update}
-use Rattle.drifters_entry.specs.Run.{SizedFilter, SizedState}
+use Rattle.drifters_entry.specs.Layout.{SizedFilter, SizedState}
 use Rattle.drifters_symmetry.specs.declared.group.Symmetry.{Symmetry}
 use Rattle.drifters_symmetry.specs.declared.lift.Input.{Input}
 use Rattle.drifters_covariance.specs.declared.covariance.ProcessNoise.{ProcessNoise}

@@ -21,7 +21,7 @@ use Rattle.drifters_eqf.specs.Filter.{turnFits, navState, halfStep, fullStep, p
 use Rattle.drifters_eqf.specs.declared.filter.EqFilter.{EqFilter}
 use Rattle.drifters_eqf.specs.declared.filter.Answer.{Answer}
 use Rattle.drifters_eqf.specs.declared.filter.Answer.the-variants.{Nis, Fine, Refused}
-use Rattle.drifters_entry.specs.Run.{filterLength, sigmaPlace, fromRun, toRun, stateToRun}
+use Rattle.drifters_entry.specs.Layout.{filterLength, sigmaPlace, fromRun, toRun, stateToRun}
 use Rattle.drifters_entry.specs.Entry.{writtenLength, startLength, Request, propagation, measurement, estimate, requestOf, Outcome, lengthsFit, call, started, start}
 use Rattle.drifters_entry.specs.Log.{Call, LogEntry, Log, logOf}
 use Rattle.drifters_entry.specs.declared.kind.Kind.{Kind}

@@ -13,7 +13,7 @@ use Rattle.drifters_matrix.specs.Matrix.{tab, allFinite}
 use Rattle.drifters_core.specs.Vec3.{toArray, finiteVec3}
 use Rattle.drifters_core.specs.declared.math.vec3.Vec3.{Vec3}
 use Rattle.drifters_matrix.proofs.Matrix.Tab.{tab-is}
-use Rattle.drifters_entry.specs.Run.{part}
+use Rattle.drifters_entry.specs.Layout.{part}
 
 -- the numbers of a part one by one
 pub tab-part : (v : List Float) (i n : ℕ) → i + n ≤ length v → tab n (λ k. getD v (i + k) nan) ≡ part v i n

@@ -10,7 +10,7 @@ use Rattle.drifters_eqf.specs.Answer.{lengthRefusal, blankRefusal, rangeRefusal
 use Rattle.drifters_lie.specs.Lie.{vec3At}
 use Rattle.drifters_covariance.specs.Covariance.{inputAt}
 use Rattle.drifters_eqf.specs.Filter.{new, navState, propagate, Measurement, updateBy, measuredPosition, measuredVelocity, measuredDirection}
-use Rattle.drifters_entry.specs.Run.{filterLength, stateLength, part, fromRun, toRun, stateFromRun, stateToRun}
+use Rattle.drifters_entry.specs.Layout.{filterLength, stateLength, part, fromRun, toRun, stateFromRun, stateToRun}
 use Rattle.drifters_symmetry.specs.declared.lift.Input.{Input}
 use Rattle.drifters_covariance.specs.declared.covariance.ProcessNoise.{ProcessNoise}
 use Rattle.drifters_eqf.specs.declared.filter.EqFilter.{EqFilter}

@@ -1,4 +1,4 @@
 -- What a reader must believe of the calls on lent runs: the filter as a run, the kinds of call and what each gives, and logs of calls.
-pub mod Run
+pub mod Layout
 pub mod Entry
 pub mod Log

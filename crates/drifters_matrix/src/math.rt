@@ -1,4 +1,4 @@
 // Matrices.
-pub mod lent;
+pub mod in_place;
 pub mod matrix;
 pub mod shapes;

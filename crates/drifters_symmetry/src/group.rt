@@ -11,7 +11,7 @@ use drifters_lie::lie::Se3Tangent;
 use drifters_lie::lie::Se23;
 use drifters_lie::lie::Se23Tangent;
 use drifters_lie::lie::left_jacobian;
-use drifters_matrix::math::lent::set_column21;
+use drifters_matrix::math::in_place::set_column21;
 use drifters_matrix::math::shapes::Mat3;
 use drifters_matrix::math::shapes::Mat21;
 use drifters_matrix::math::shapes::Vector6;

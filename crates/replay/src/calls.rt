@@ -10,9 +10,9 @@ use call_sheet::sheet::kind_of;
 use call_sheet::sheet::read_sheet;
 use drifters_entry::entry::FILTER_LENGTH;
 use drifters_entry::entry::call_length;
+use replay_lists::call_digest::ANSWER_BYTES;
 use replay_lists::calls::MOST_CALL_NUMBERS;
 use replay_lists::calls::run_call;
-use replay_lists::outcome::ANSWER_BYTES;
 use replay_lists::tally::Tally;
 use replay_lists::tally::unread;
 
@@ -44,8 +44,8 @@ fn run_calls(
     let mut at = 0;
     for i in 0..n {
         let kind = kind_of(kinds[i]);
-        let outcome = run_call(kind, run, numbers_of(bits, at));
-        t = t.compare(outcome, answers, ANSWER_BYTES * i);
+        let given = run_call(kind, run, numbers_of(bits, at));
+        t = t.compare(given, answers, ANSWER_BYTES * i);
         at += call_length(kind);
     }
     t

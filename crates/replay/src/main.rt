@@ -24,19 +24,19 @@ fn replay_calls() -> Tally {
     );
     replay(
         t,
-        b"eight_update eight_full eight_full_e eight_half eight_half_e ",
+        b"limit_update limit_full limit_full_e limit_half limit_half_e ",
     )
 }
 
-fn print_eights() {
+fn print_limits() {
     print_sheet(
         b"a turn above 8, then of 8: update, attitude and E",
-        b"eight_update.sheet",
+        b"limit_update.sheet",
     );
-    print_sheet(b"the same: full step", b"eight_full.sheet");
-    print_sheet(b"the same: full step, E", b"eight_full_e.sheet");
-    print_sheet(b"the same: half step", b"eight_half.sheet");
-    print_sheet(b"the same: half step, E", b"eight_half_e.sheet");
+    print_sheet(b"the same: full step", b"limit_full.sheet");
+    print_sheet(b"the same: full step, E", b"limit_full_e.sheet");
+    print_sheet(b"the same: half step", b"limit_half.sheet");
+    print_sheet(b"the same: half step, E", b"limit_half_e.sheet");
 }
 
 fn print_counts() {
@@ -50,7 +50,7 @@ fn main() {
         .print(b"all calls");
     replay_leaves();
     print_lengths();
-    print_eights();
+    print_limits();
     print_counts();
     replay_files(
         b"blank, a bit of its answers changed",

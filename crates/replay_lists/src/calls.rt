@@ -1,7 +1,7 @@
 // One call, and what it leaves.
+use crate::call_digest::CallDigest;
+use crate::call_digest::UNTOUCHED;
 use crate::digest::digest;
-use crate::outcome::Outcome;
-use crate::outcome::UNTOUCHED;
 use drifters_entry::entry::STATE_LENGTH;
 use drifters_entry::entry::call;
 use drifters_entry::entry::call_length;
@@ -22,12 +22,12 @@ fn untouched() -> [f64; STATE_LENGTH] {
 }
 
 // Makes a call by the first of some numbers.
-pub fn run_call(kind: Kind, run: &mut [f64], numbers: [f64; MOST_CALL_NUMBERS]) -> Outcome {
+pub fn run_call(kind: Kind, run: &mut [f64], numbers: [f64; MOST_CALL_NUMBERS]) -> CallDigest {
     let mut state = untouched();
     let n = call_length(kind);
     let m = written_length(kind);
     let answer = call(kind, run, &numbers[..n], &mut state[..m]);
-    Outcome {
+    CallDigest {
         answer,
         state: state_digest(&state),
         filter: digest(run),

@@ -1,8 +1,8 @@
 // Calls, starts and values of functions, made on the proved code and compared with the original's stored answers.
 mod bytes;
+pub mod call_digest;
 pub mod calls;
 mod digest;
 pub mod leaves;
-pub mod outcome;
 pub mod starts;
 pub mod tally;

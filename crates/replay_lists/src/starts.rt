@@ -2,9 +2,9 @@
 ghost use Prim.Native.Nat.{_+_, _*_, _≤_};
 ghost use lib.ListN.{length};
 use crate::bytes::numbers_at;
+use crate::call_digest::CallDigest;
+use crate::call_digest::UNTOUCHED;
 use crate::digest::digest;
-use crate::outcome::Outcome;
-use crate::outcome::UNTOUCHED;
 use crate::tally::Tally;
 use crate::tally::unread;
 use drifters_entry::entry::FILTER_LENGTH;
@@ -21,14 +21,14 @@ const NUMBERS_BYTES: usize = 3816;
 const START_BYTES: usize = 3848;
 
 // Starts a filter by the numbers from a place on.
-fn run_start(s: &[u8], at: usize) -> Outcome
+fn run_start(s: &[u8], at: usize) -> CallDigest
     requires { ⌜ at + 3848 ≤ length (now s) ⌝ }
 {
     let mut numbers = [0.0; 477];
     numbers_at(s, at, &mut numbers);
     let mut run = [UNTOUCHED; FILTER_LENGTH];
     let answer = start(&mut run, &numbers);
-    Outcome {
+    CallDigest {
         answer,
         state: 0,
         filter: digest(&run),
@@ -41,8 +41,8 @@ fn run_starts(s: &[u8]) -> Tally
 {
     let mut t = Tally::none();
     for i in 0..STARTS {
-        let outcome = run_start(s, START_BYTES * i);
-        t = t.compare(outcome, s, START_BYTES * i + NUMBERS_BYTES);
+        let given = run_start(s, START_BYTES * i);
+        t = t.compare(given, s, START_BYTES * i + NUMBERS_BYTES);
     }
     t
 }

@@ -1,5 +1,5 @@
 // How many calls gave each answer, and how many answered otherwise than the original.
-use crate::outcome::Outcome;
+use crate::call_digest::CallDigest;
 use drifters_eqf::filter::Answer;
 use libc::STDOUT_FILENO;
 use std::num::wrapping_add_u64;
@@ -62,9 +62,9 @@ impl Tally {
     }
 
     // One call more: what came of it, and the original's answer from a place on.
-    pub fn compare(self, outcome: Outcome, answers: &[u8], at: usize) -> Tally {
-        let answer = outcome.answer;
-        self.count(answer, outcome.is_stored(answers, at))
+    pub fn compare(self, given: CallDigest, answers: &[u8], at: usize) -> Tally {
+        let answer = given.answer;
+        self.count(answer, given.is_stored(answers, at))
     }
 
     // The calls of both.

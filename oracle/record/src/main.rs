@@ -1,6 +1,6 @@
 //! Records the original's answers for the program `replay`: `record FOLDER` writes its data files. crates/replay/README.md tells what each has.
-mod eight;
 mod leaves;
+mod limit;
 mod list;
 mod lists;
 mod starts;
@@ -37,7 +37,7 @@ fn main() {
     let folder = env::args().nth(1).expect("record FOLDER");
     let folder = Path::new(&folder);
     let mut all = Tally::default();
-    for list in lists::all().iter().chain(&eight::all()) {
+    for list in lists::all().iter().chain(&limit::all()) {
         write_list(folder, list);
         list.tally.print(list.name);
         all.add(&list.tally);

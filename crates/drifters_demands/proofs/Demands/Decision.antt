@@ -13,7 +13,7 @@ use Rattle.drifters_matrix.specs.Matrix.{allFinite}
 use Rattle.drifters_eqf.specs.Answer.{rangeRefusal, numberOf, valuesOf}
 use Rattle.drifters_eqf.specs.Gcu.{definite, entriesOf, nis}
 use Rattle.drifters_eqf.specs.Filter.{turnFits, refuse, navState, halfStep, fullStep, propagated, propagate, rawFactor, inflatedFactor, gain, correction, updated, update}
-use Rattle.drifters_entry.specs.Run.{filterLength, fromRun, toRun, stateToRun}
+use Rattle.drifters_entry.specs.Layout.{filterLength, fromRun, toRun, stateToRun}
 use Rattle.drifters_entry.specs.Entry.{callLength, writtenLength, startLength, Request, propagation, measurement, estimate, requestOf, Outcome, outcomeOf, performed, refused, finiteOutcome, ifFinite, settledAs, settled, lengthsFit, call, started, start}
 use Rattle.drifters_demands.specs.Demands.{Check, unless, firstOf, laterChecks, checks, startChecks, Checked, done}
 use Rattle.drifters_eqf.specs.declared.filter.EqFilter.{EqFilter}

@@ -15,7 +15,7 @@ use Rattle.drifters_demands.specs.Demands.{EqualNumber, sameBits, bothZe
 use Rattle.drifters_demands.proofs.Signs.Like.{finZero, respects, isZero, exact}
 use Rattle.drifters_demands.proofs.Signs.Compare.{eq-isZero}
 use Rattle.drifters_demands.proofs.Signs.FilterRecords.{LikeAnswer, both-nis, both-fine, both-refused}
-use Rattle.drifters_demands.proofs.Signs.Run.{Turned, length-turned, getD-turned}
+use Rattle.drifters_demands.proofs.Signs.Layout.{Turned, length-turned, getD-turned}
 
 -- ---- numbers
 zero-is : (x : Float) → isZero x ≡ true → unsignedZero x ≡ finZero

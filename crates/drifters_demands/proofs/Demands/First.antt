@@ -9,12 +9,12 @@ use Rattle.drifters_matrix.specs.Matrix.{allFinite}
 use Rattle.drifters_matrix.proofs.Matrix.Grid.{at-in}
 use Rattle.drifters_matrix.proofs.Matrix.Theorems.{mirrored}
 use Rattle.drifters_eqf.specs.Filter.{updated}
-use Rattle.drifters_entry.specs.Run.{toRun, SizedFilter}
+use Rattle.drifters_entry.specs.Layout.{toRun, SizedFilter}
 use Rattle.drifters_demands.specs.Demands.{FiniteMirrored, Demand1}
 use Rattle.drifters_eqf.specs.declared.filter.EqFilter.{EqFilter}
 use Rattle.drifters_entry.specs.declared.kind.Kind.{Kind}
 use Rattle.drifters_entry.specs.declared.kind.Kind.the-variants.{Propagate, Position, Velocity, Direction, General, State}
-use Rattle.drifters_entry.proofs.Runs.{length-toRun, sigma-at}
+use Rattle.drifters_entry.proofs.RoundTrips.{length-toRun, sigma-at}
 use Rattle.drifters_demands.proofs.Sizes.{Symmetrized, symmetrized-propagated, symmetrized-updated, sized-propagated, sized-updated}
 use Rattle.drifters_demands.proofs.Demands.Sheets.{checked-sheet}
 use Rattle.drifters_demands.proofs.Demands.Decision.{decision-accepted, checked, doneBy, call-decision, start-decision}

@@ -8,17 +8,17 @@ use lib.Ieee.{Float}
 use Rattle.drifters_real.specs.Scalar.{plusZero}
 use Rattle.drifters_matrix.specs.Matrix.{zeros}
 use Rattle.drifters_eqf.specs.Filter.{navState}
-use Rattle.drifters_entry.specs.Run.{fromRun}
+use Rattle.drifters_entry.specs.Layout.{fromRun}
 use Rattle.drifters_entry.specs.Entry.{callLength, writtenLength, Outcome, call}
 use Rattle.drifters_entry.specs.Log.{Call, outcomeOn, entriesFrom}
 use Rattle.drifters_entry.specs.declared.kind.Kind.{Kind}
 use Rattle.drifters_entry.specs.declared.kind.Kind.the-variants.{Propagate, Position, Velocity, Direction, General, State}
-use Rattle.drifters_entry.proofs.Runs.{length-stateToRun}
+use Rattle.drifters_entry.proofs.RoundTrips.{length-stateToRun}
 use Rattle.drifters_demands.specs.Like.{Signs}
 use Rattle.drifters_demands.specs.Turn.{filterSigns, turnCall, turnEntry}
 use Rattle.drifters_demands.specs.Demands.{EqualCall, EqualEntry, Demand3}
 use Rattle.drifters_demands.proofs.Sizes.{sized-navState}
-use Rattle.drifters_demands.proofs.Signs.Run.{Turned}
+use Rattle.drifters_demands.proofs.Signs.Layout.{Turned}
 use Rattle.drifters_demands.proofs.Signs.Entry.{LikeOutcome, turned-zeros, like-call}
 use Rattle.drifters_demands.proofs.Demands.Decision.{Decision, refuses, accepts, doneBy, call-decision}
 use Rattle.drifters_demands.proofs.Demands.Equality.{turned-equal, equal-turned, equal-answer}

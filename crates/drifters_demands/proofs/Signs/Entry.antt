@@ -19,7 +19,7 @@ use Rattle.drifters_eqf.specs.Answer.{lengthRefusal, blankRefusal, rangeRefusal
 use Rattle.drifters_lie.specs.Lie.{vec3At}
 use Rattle.drifters_covariance.specs.Covariance.{inputAt}
 use Rattle.drifters_eqf.specs.Filter.{update, Measurement}
-use Rattle.drifters_entry.specs.Run.{filterLength, part, fromRun, toRun, stateToRun, SizedFilter, SizedState}
+use Rattle.drifters_entry.specs.Layout.{filterLength, part, fromRun, toRun, stateToRun, SizedFilter, SizedState}
 use Rattle.drifters_entry.specs.Entry.{callLength, writtenLength, processNoiseAt, requestOf, Outcome, outcomeOf, performed, refused, finiteOutcome, ifFinite, settledAs, settled, lengthsFit, call}
 use Rattle.drifters_demands.specs.Turn.{plain, thenSigns, matrixSigns, noiseSigns, filterSigns, callSigns, stateSigns}
 use Rattle.drifters_symmetry.specs.declared.group.State.{State as StateRecord}
@@ -28,12 +28,12 @@ use Rattle.drifters_eqf.specs.declared.filter.Answer.{Answer}
 use Rattle.drifters_eqf.specs.declared.filter.Answered.{Answered}
 use Rattle.drifters_entry.specs.declared.kind.Kind.{Kind}
 use Rattle.drifters_entry.specs.declared.kind.Kind.the-variants.{Propagate, Position, Velocity, Direction, General, State}
-use Rattle.drifters_entry.proofs.Runs.{roundTrips, length-toRun, length-stateToRun, sized-fromRun}
+use Rattle.drifters_entry.proofs.RoundTrips.{roundTrips, length-toRun, length-stateToRun, sized-fromRun}
 use Rattle.drifters_demands.proofs.Sizes.{sized-propagate, sized-update, sized-navState}
 use Rattle.drifters_demands.proofs.Signs.GroupRecords.{LikeState, LikeInput}
 use Rattle.drifters_demands.proofs.Signs.FilterRecords.{LikeProcessNoise, LikeFilter, LikeAnswer, both-nis, both-fine, both-refused, LikeAnswered, LikeMeasurement}
 use Rattle.drifters_demands.proofs.Signs.Filter.{like-navState, like-propagate, like-update, like-measuredPosition, like-measuredVelocity, like-measuredDirection}
-use Rattle.drifters_demands.proofs.Signs.Run.{Turned, like-first, like-rest, like-part, like-fromRun, like-of-fromRun, like-of-stateFromRun}
+use Rattle.drifters_demands.proofs.Signs.Layout.{Turned, like-first, like-rest, like-part, like-fromRun, like-of-fromRun, like-of-stateFromRun}
 
 -- ---- runs
 pub turned-zeros : {σ : ℕ → Bool} (n : ℕ) → Turned σ (zeros n) (zeros n)

@@ -1,5 +1,5 @@
 // The shapes of matrix in use: for each a record with one flat array, by value. A method calls the function of matrix.rt, or of
-// lent.rt, at its dimensions.
+// in_place.rt, at its dimensions.
 ghost use mathlib.Core.Path.{_≡_};
 ghost use Rattle.drifters_matrix.specs.Matrix.{zeros, transpose, matmul, mulTranspose, scaled, setBlock, block, allFinite, amax, fromDiagonal, identity, diagonal, symmetrize, addMatrix, subMatrix, negMatrix};
 use crate::math::matrix::add_in;

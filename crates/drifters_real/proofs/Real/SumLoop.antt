@@ -1,4 +1,4 @@
--- The loop of `sum_terms`: what holds at its head, that a pass keeps it, and what it comes to.
+-- The loop of `power_sums`: what holds at its head, that a pass keeps it, and what it comes to.
 use mathlib.Core.Path.{_≡_, refl, sym, ap, ap₂, _∙_, subst}
 use Prim.Native.Nat.{ℕ, zero, suc, _+_, _-_, _*_, _/_, _^_, _≤_, _<_, zero-le}
 use native.Mathlib.Nat.{le-trans, le-of-lt, le-antisymm, lt-of-le-of-lt, mul-le-mul, add-zero, zero-mul, mul-zero, zero-div, le-of-suc-le-suc, eq-or-lt-of-le, zero-add, mul-pos}

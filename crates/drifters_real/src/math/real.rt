@@ -173,7 +173,7 @@ struct Sums {
 
 // The sums for the angle's square x, in units of 2^-64. Each pass adds two terms, and the loop is
 // left where nothing remains to add.
-fn sum_terms(x: Wide) -> Sums
+fn power_sums(x: Wide) -> Sums
     requires { ⌜ (value x ≤ squareLimit) × (x .l < 2 ^ 32) ⌝ }
     ensures { λ r. ⌜ AreSums (value x) r ⌝ }
 {
@@ -231,7 +231,7 @@ pub fn sin_cos(theta: f64) -> SinCos
     if theta >= 0.0 {
         if theta <= ANGLE_LIMIT {
             let t = std::num::truncating_f64_to_u64(theta * UNITS);
-            let s = sum_terms(squared(t));
+            let s = power_sums(squared(t));
             return SinCos {
                 sin: theta * difference(s.sp, s.sn),
                 cos: difference(s.cp, s.cn),

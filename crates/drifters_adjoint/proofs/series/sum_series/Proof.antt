@@ -14,11 +14,11 @@ returns c =
     let psi-finite = c .before .before in
     let m-finite = psi-finite .before .before .before .before in
     let sum = m-finite .before .before .before .before in
-    series-whole (sum .before .before .args .w) (sum .before .ad .ensures) (sum .sum-series .ensures) (m-finite .all-finite .ensures) (psi-finite .all-finite2 .ensures) (c .before .if1 .taken) (c .whole .ensures)
+    series-whole (sum .before .before .args .w) (sum .before .ad .ensures) (sum .series .ensures) (m-finite .all-finite .ensures) (psi-finite .all-finite2 .ensures) (c .before .if1 .taken) (c .whole .ensures)
 
 -- the general way
 returns-2 : tie.Need-returns-2
-returns-2 c = c .sum-terms .ensures ∙ ap (λ (l : List Float). series l 15) (c .before .ad2 .ensures)
+returns-2 c = c .matrix-series .ensures ∙ ap (λ (l : List Float). series l 15) (c .before .ad2 .ensures)
 
 pub sum-series-spec : {M : Type 1} → statement M
 sum-series-spec =

@@ -12,7 +12,7 @@ returns c =
     let s = u .before .before .before in
     let p = s .before .before .before .before in
     let ikc = rw (p .before .before .identity .ensures, p .matmul21 .ensures) at (s .sub21 .ensures) in
-    let carried = rw ikc at (u .carry .ensures) in
+    let carried = rw ikc at (u .congruence .ensures) in
     let noise = rw (k .matmul3 .ensures) at (t .mul-transpose .ensures) in
     rw (carried, noise) at (c .add21 .ensures)
 

@@ -5,7 +5,7 @@ use borrow.Author.Tests.{eq-eqb, not-true, not-false}
 use lib.Dec.{eqb}
 use lib.ListN.{length}
 use Rattle.drifters_eqf.specs.Answer.{blankRefusal}
-use Rattle.drifters_entry.specs.Run.{filterLength}
+use Rattle.drifters_entry.specs.Layout.{filterLength}
 use Rattle.drifters_entry.specs.Entry.{firstRefusal}
 use Rattle.drifters_entry.proofs.Calls.{lengths-differ}
 use Rattle.drifters_entry.proofs.entry.first_refusal.Statement.{statement}

@@ -9,7 +9,7 @@ use lib.ListN.{length}
 use Rattle.drifters_matrix.specs.Matrix.{allFinite}
 use Rattle.drifters_eqf.specs.Answer.{rangeRefusal}
 use Rattle.drifters_eqf.specs.Filter.{navState}
-use Rattle.drifters_entry.specs.Run.{filterLength, stateLength, stateToRun}
+use Rattle.drifters_entry.specs.Layout.{filterLength, stateLength, stateToRun}
 use Rattle.drifters_entry.specs.Entry.{outcome, performed, refused, settled, call}
 use Rattle.drifters_eqf.specs.declared.filter.Answer.the-variants.{Fine}
 use Rattle.drifters_entry.specs.declared.kind.Kind.the-variants.{State}

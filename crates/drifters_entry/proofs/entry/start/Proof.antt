@@ -5,7 +5,7 @@ use borrow.Author.Needs.{needs}
 use borrow.Author.Tests.{eqb-true, eq-eqb, not-true, not-false}
 use lib.Dec.{eqb}
 use lib.ListN.{length}
-use Rattle.drifters_entry.specs.Run.{filterLength}
+use Rattle.drifters_entry.specs.Layout.{filterLength}
 use Rattle.drifters_entry.specs.Entry.{startLength, started, start}
 use Rattle.drifters_entry.proofs.Calls.{lengths-differ}
 use Rattle.drifters_entry.proofs.entry.start.Statement.{statement}

@@ -8,7 +8,7 @@ use lib.Ieee.{Float}
 use Rattle.drifters_matrix.specs.Matrix.{tab}
 use Rattle.drifters_core.specs.Vec3.{toArray}
 use Rattle.drifters_lie.specs.Lie.{vec3At}
-use Rattle.drifters_entry.specs.Run.{part}
+use Rattle.drifters_entry.specs.Layout.{part}
 use Rattle.drifters_entry.specs.Entry.{callLength, performed}
 use Rattle.drifters_entry.specs.declared.kind.Kind.the-variants.{General}
 use Rattle.drifters_entry.proofs.Parts.{tab-part}

@@ -121,7 +121,7 @@ returns-3 c =
     let after =
     propagated-is (filter z) (input z) (time z) (z .before .before .before .before .before .before .args .q)
     (estimate-is z) (midpoint-is m) (full-is f) (x .before .exp2 .ensures) (x .compose2 .ensures)
-    (a .state-matrix .ensures) (phi .transition .ensures) (q .process-noise .ensures) (t .carry .ensures)
+    (a .state-matrix .ensures) (phi .transition .ensures) (q .process-noise .ensures) (t .congruence .ensures)
     (d .abs .ensures) (s .add-scaled21 .ensures) (c .symmetrize21 .ensures) in
     rw (half-true (m .before .before .before), sym (full-turn (e2 .before)) ∙ not-false _ (e2 .if2 .left)) (λ i. record { answer = Fine; filter = after i })
 

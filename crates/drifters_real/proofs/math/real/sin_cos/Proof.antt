@@ -38,8 +38,8 @@ squared-requires c κs = subst (λ (t : ℕ). t ≤ 2 ^ 63) (sym (t-is c)) (le-t
 x-is : (c : tie.After-squared) → c .squared .result .h * 2 ^ 32 + c .squared .result .l ≡ square (angle (c .before .before .before .before .args .theta))
 x-is c = c .squared .ensures .is ∙ ap square (t-is (c .before))
 
-sum-terms-requires : tie.Need-sum-terms-requires
-sum-terms-requires c κs =
+power-sums-requires : tie.Need-power-sums-requires
+power-sums-requires c κs =
     (subst (λ (x : ℕ). x ≤ squareLimit) (sym (x-is c)) (square-limit (angle (c .before .before .before .before .args .theta)) (k (c .before .before) .most)), c .squared .ensures .digits)
 
 difference-requires : tie.Need-difference-requires
@@ -60,8 +60,8 @@ returns c =
     let x = th .before .before .args .theta in
     let X = q .squared .result .h * 2 ^ 32 + q .squared .result .l in
     both x _ _
-    (ap (mul binary64 x) (d .difference .ensures ∙ sinc-is X (s .sum-terms .result .sp) (s .sum-terms .result .sn) (s .sum-terms .ensures .sin-plus) (s .sum-terms .ensures .sin-minus) ∙ ap sincOfSquare (x-is q)) ∙ sym (sin-in x (within th)))
-    (c .difference2 .ensures ∙ cosine-is X (s .sum-terms .result .cp) (s .sum-terms .result .cn) (s .sum-terms .ensures .cos-plus) (s .sum-terms .ensures .cos-minus) ∙ ap cosOfSquare (x-is q) ∙ sym (cos-in x (within th)))
+    (ap (mul binary64 x) (d .difference .ensures ∙ sinc-is X (s .power-sums .result .sp) (s .power-sums .result .sn) (s .power-sums .ensures .sin-plus) (s .power-sums .ensures .sin-minus) ∙ ap sincOfSquare (x-is q)) ∙ sym (sin-in x (within th)))
+    (c .difference2 .ensures ∙ cosine-is X (s .power-sums .result .cp) (s .power-sums .result .cn) (s .power-sums .ensures .cos-plus) (s .power-sums .ensures .cos-minus) ∙ ap cosOfSquare (x-is q) ∙ sym (cos-in x (within th)))
 
 out : (c : tie.Joined1) → inRange (c .before .args .theta) ≡ false
 out c = ⊎-elim (λ w. out-high (c .before .args .theta) (w .1 .left)) (λ w. out-low (c .before .args .theta) (w .left)) (c .if1 .came)
@@ -75,7 +75,7 @@ sin-cos-spec =
     (tie.spec
     truncating-f64-to-u64-requires
     squared-requires
-    sum-terms-requires
+    power-sums-requires
     difference-requires
     difference-requires-2
     returns
