@@ -51,8 +51,10 @@ writtenLength State = stateLength
 abbrev pub startLength : ℕ
 startLength = 477
 
--- what a call asks of the filter: to propagate, to be updated by a measurement of w numbers with its noise, or its estimate
+-- what a call asks of the filter: to propagate, to be updated by a measurement of w numbers with its noise, or its estimate; `refusal` is for a
+-- kind with a check of its own, which stands between blank and pivot
 pub data Request : Type 0 where
+  refusal : ℕ → Request
   propagation : Input → Float → ProcessNoise → Request
   measurement : ℕ → Measurement → List Float → Request
   estimate : Request
@@ -91,15 +93,16 @@ outcome answer run written = record { answer = answer; run = run; written = writ
 abbrev pub outcomeOf : Answered → List Float → Outcome
 outcomeOf a written = record { answer = a .answer; run = toRun (a .filter); written = written }
 
--- what is asked, done: before the results are tested
-unfoldable pub performed : Request → EqFilter → List Float → List Float → Outcome
-performed (propagation u dt q) f run written = outcomeOf (propagate f u dt q) written
-performed (measurement w m noise) f run written = outcomeOf (updateBy w f m noise) written
-performed estimate f run written = record { answer = Fine; run = run; written = stateToRun (navState f) }
-
 -- a refusal leaves every lent run as it was
 abbrev pub refused : ℕ → List Float → List Float → Outcome
 refused n run written = record { answer = Refused n; run = run; written = written }
+
+-- what is asked, made, before the results are tested
+unfoldable pub performed : Request → EqFilter → List Float → List Float → Outcome
+performed (refusal n) f run written = refused n run written
+performed (propagation u dt q) f run written = outcomeOf (propagate f u dt q) written
+performed (measurement w m noise) f run written = outcomeOf (updateBy w f m noise) written
+performed estimate f run written = record { answer = Fine; run = run; written = stateToRun (navState f) }
 
 -- the values of an answer and the filter left are finite
 abbrev pub finiteOutcome : Outcome → Bool
@@ -110,29 +113,29 @@ abbrev pub ifFinite : Outcome → List Float → List Float → Outcome
 ifFinite o run written = cond (finiteOutcome o) o (refused rangeRefusal run written)
 
 -- an outcome as it is given out: a refusal, or what is finite
-abbrev pub settledAs : Answer → Outcome → List Float → List Float → Outcome
-settledAs (Nis x) o run written = ifFinite o run written
-settledAs Fine o run written = ifFinite o run written
-settledAs (Refused n) o run written = refused n run written
+abbrev pub rangeCheckedAs : Answer → Outcome → List Float → List Float → Outcome
+rangeCheckedAs (Nis x) o run written = ifFinite o run written
+rangeCheckedAs Fine o run written = ifFinite o run written
+rangeCheckedAs (Refused n) o run written = refused n run written
 
--- an outcome, settled by its own answer
-unfoldable pub settled : Outcome → List Float → List Float → Outcome
-settled o run written = settledAs (o .answer) o run written
+-- an outcome as it is given out, by its own answer
+unfoldable pub rangeChecked : Outcome → List Float → List Float → Outcome
+rangeChecked o run written = rangeCheckedAs (o .answer) o run written
 
--- every lent run of a call has its stated length; where a call writes nothing beside the filter, `written` is empty
-abbrev pub lengthsFit : Kind → List Float → List Float → List Float → Bool
-lengthsFit kind run v written = eqb (length run) filterLength && eqb (length v) (callLength kind) && eqb (length written) (writtenLength kind)
+-- every lent run of a call has its stated length, n that of the run to be written, which is empty where nothing is written beside the filter
+abbrev pub lengthsFit : Kind → List Float → List Float → ℕ → Bool
+lengthsFit kind run v n = eqb (length run) filterLength && eqb (length v) (callLength kind) && eqb n (writtenLength kind)
 
--- the number of the refusal, by length or blank, of a filter's run and numbers v that are to be n; 0 where there is none
-abbrev pub firstRefusal : ℕ → List Float → List Float → ℕ
-firstRefusal n run v = cond (eqb (length run) filterLength && eqb (length v) n) (cond (allFinite run && allFinite v) 0 blankRefusal) lengthRefusal
+-- the number of the refusal of a call by length or blank, where its run to be written has n numbers; 0 where there is none
+abbrev pub firstRefusal : Kind → List Float → List Float → ℕ → ℕ
+firstRefusal kind run v n = cond (lengthsFit kind run v n) (cond (allFinite run && allFinite v) 0 blankRefusal) lengthRefusal
 
 -- a call of a kind with the numbers v, on the filter's run; `written` is the run that a state call writes
 unfoldable pub call : Kind → List Float → List Float → List Float → Outcome
 call kind run v written =
-    cond (lengthsFit kind run v written)
+    cond (lengthsFit kind run v (length written))
     (cond (allFinite run && allFinite v)
-    (settled (performed (requestOf kind (fromRun run) v) (fromRun run) run written) run written)
+    (rangeChecked (performed (requestOf kind (fromRun run) v) (fromRun run) run written) run written)
     (refused blankRefusal run written))
     (refused lengthRefusal run written)
 
@@ -144,5 +147,5 @@ started v = toRun (new (stateFromRun v) (part v stateLength 441) (vec3At v (stat
 unfoldable pub start : List Float → List Float → Outcome
 start run v =
     cond (eqb (length run) filterLength && eqb (length v) startLength)
-    (cond (allFinite v) (settled (record { answer = Fine; run = started v; written = [] }) run []) (refused blankRefusal run []))
+    (cond (allFinite v) (rangeChecked (record { answer = Fine; run = started v; written = [] }) run []) (refused blankRefusal run []))
     (refused lengthRefusal run [])

@@ -1,10 +1,13 @@
 // The calls on a filter that is lent as a run of numbers. Runs of any length come in; a call that is refused changes none of them.
 ghost use mathlib.Core.Path.{_≡_};
-ghost use mathlib.Core.List.{[]};
+ghost use mathlib.Core.Bool.{true};
+ghost use mathlib.Core.List.{List, []};
 ghost use Prim.Native.Nat.{_+_, _≤_};
 ghost use lib.ListN.{length};
-ghost use Rattle.drifters_entry.specs.Layout.{filterLength, part};
-ghost use Rattle.drifters_entry.specs.Entry.{callLength, writtenLength, processNoiseAt, outcome, outcomeOf, settled, firstRefusal, call, start};
+ghost use lib.Ieee.{Float};
+ghost use Rattle.drifters_matrix.specs.Matrix.{allFinite};
+ghost use Rattle.drifters_entry.specs.Layout.{filterLength, stateLength, part, fromRun};
+ghost use Rattle.drifters_entry.specs.Entry.{callLength, writtenLength, estimate, processNoiseAt, requestOf, outcome, outcomeOf, performed, rangeChecked, firstRefusal, call, start};
 ghost use Rattle.drifters_entry.specs.declared.kind.Kind.the-variants.{Propagate, Position, Velocity, Direction, General, State};
 use crate::kind::Kind;
 use crate::layout::copy_part;
@@ -68,20 +71,22 @@ pub fn written_length(kind: Kind) -> usize
     }
 }
 
-// A call of any kind; `written` is the run that a state call writes, and empty for the others.
+// A call of a kind: its checks, what it asks of the filter, and the results written back. `written` is the run that a state call writes, and
+// empty for the others. A refusal changes no lent number.
 pub fn call(kind: Kind, run: &mut [f64], numbers: &[f64], written: &mut [f64]) -> Answer
     ensures { λ r. ⌜ outcome r (now (run .exit)) (now (written .exit)) ≡ call kind (now (run .entry)) (now (numbers .entry)) (now (written .entry)) ⌝ }
 {
-    if numbers.len() != call_length(kind) || written.len() != written_length(kind) {
-        return Answer::Refused(LENGTH_REFUSAL);
+    let refusal = first_refusal(kind, run, numbers, written.len());
+    if refusal != 0 {
+        return Answer::Refused(refusal);
     }
     match kind {
-        Kind::Propagate => propagate(run, numbers),
-        Kind::Position => update_position(run, numbers),
-        Kind::Velocity => update_velocity(run, numbers),
-        Kind::Direction => update_direction(run, numbers),
-        Kind::General => update(run, numbers),
-        Kind::State => nav_state(run, written),
+        Kind::Propagate => write_filter(propagation_by(from_run(run), numbers), run),
+        Kind::Position => write_filter(position_by(from_run(run), numbers), run),
+        Kind::Velocity => write_filter(velocity_by(from_run(run), numbers), run),
+        Kind::Direction => write_filter(direction_by(from_run(run), numbers), run),
+        Kind::General => write_filter(general_by(from_run(run), numbers), run),
+        Kind::State => write_estimate(run, written),
     }
 }
 
@@ -89,99 +94,54 @@ pub fn call(kind: Kind, run: &mut [f64], numbers: &[f64], written: &mut [f64]) -
 pub fn propagate(run: &mut [f64], numbers: &[f64]) -> Answer
     ensures { λ r. ⌜ outcome r (now (run .exit)) [] ≡ call Propagate (now (run .entry)) (now (numbers .entry)) [] ⌝ }
 {
-    let refusal = first_refusal(run, numbers, call_length(Kind::Propagate));
-    if refusal != 0 {
-        return Answer::Refused(refusal);
-    }
-    let u = Input {
-        omega: vec3_at(numbers, 0),
-        accel: vec3_at(numbers, 3),
-    };
-    let q = process_noise_at(numbers, 7);
-    settle(from_run(run).propagate(u, numbers[6], q), run)
+    filter_call(Kind::Propagate, run, numbers)
 }
 
 // The update by an antenna position: antenna 3, noise 9.
 pub fn update_position(run: &mut [f64], numbers: &[f64]) -> Answer
     ensures { λ r. ⌜ outcome r (now (run .exit)) [] ≡ call Position (now (run .entry)) (now (numbers .entry)) [] ⌝ }
 {
-    let refusal = first_refusal(run, numbers, call_length(Kind::Position));
-    if refusal != 0 {
-        return Answer::Refused(refusal);
-    }
-    let antenna = vec3_at(numbers, 0);
-    let noise = mat3_at(numbers, 3);
-    settle(from_run(run).update_position(antenna, noise), run)
+    filter_call(Kind::Position, run, numbers)
 }
 
 // The update by an antenna velocity: antenna 3, omega 3, noise 9.
 pub fn update_velocity(run: &mut [f64], numbers: &[f64]) -> Answer
     ensures { λ r. ⌜ outcome r (now (run .exit)) [] ≡ call Velocity (now (run .entry)) (now (numbers .entry)) [] ⌝ }
 {
-    let refusal = first_refusal(run, numbers, call_length(Kind::Velocity));
-    if refusal != 0 {
-        return Answer::Refused(refusal);
-    }
-    let antenna = vec3_at(numbers, 0);
-    let omega = vec3_at(numbers, 3);
-    let noise = mat3_at(numbers, 6);
-    settle(from_run(run).update_velocity(antenna, omega, noise), run)
+    filter_call(Kind::Velocity, run, numbers)
 }
 
 // The update by a direction: measured 3, north 3, noise 9.
 pub fn update_direction(run: &mut [f64], numbers: &[f64]) -> Answer
     ensures { λ r. ⌜ outcome r (now (run .exit)) [] ≡ call Direction (now (run .entry)) (now (numbers .entry)) [] ⌝ }
 {
-    let refusal = first_refusal(run, numbers, call_length(Kind::Direction));
-    if refusal != 0 {
-        return Answer::Refused(refusal);
-    }
-    let measured = vec3_at(numbers, 0);
-    let north = vec3_at(numbers, 3);
-    let noise = mat3_at(numbers, 6);
-    settle(from_run(run).update_direction(measured, north, noise), run)
+    filter_call(Kind::Direction, run, numbers)
 }
 
 // The general update: output matrix 63, innovation 3, noise 9.
 pub fn update(run: &mut [f64], numbers: &[f64]) -> Answer
     ensures { λ r. ⌜ outcome r (now (run .exit)) [] ≡ call General (now (run .entry)) (now (numbers .entry)) [] ⌝ }
 {
-    let refusal = first_refusal(run, numbers, call_length(Kind::General));
-    if refusal != 0 {
-        return Answer::Refused(refusal);
-    }
-    let c = output_matrix(numbers);
-    let innovation = vec3_at(numbers, 63);
-    let noise = mat3_at(numbers, 66);
-    settle(from_run(run).update(c, innovation, noise), run)
+    filter_call(Kind::General, run, numbers)
 }
 
-// The estimate, its 33 numbers into `written`.
+// The estimate, its 33 numbers into `written`: `call` at `State`, on a filter that is lent to be read only.
 pub fn nav_state(run: &[f64], written: &mut [f64]) -> Answer
     ensures { λ r. ⌜ outcome r (now (run .entry)) (now (written .exit)) ≡ call State (now (run .entry)) [] (now (written .entry)) ⌝ }
 {
-    if run.len() != FILTER_LENGTH || written.len() != STATE_LENGTH {
-        return Answer::Refused(LENGTH_REFUSAL);
+    let none = [0.0; 0];
+    let refusal = first_refusal(Kind::State, run, &none, written.len());
+    if refusal != 0 {
+        return Answer::Refused(refusal);
     }
-    if !all_finite(run) {
-        return Answer::Refused(BLANK_REFUSAL);
-    }
-    let estimate = act_state(
-        symmetry_from_run(run),
-        drifters_symmetry::group::State::default(),
-    );
-    if !state_is_finite(estimate) {
-        return Answer::Refused(RANGE_REFUSAL);
-    }
-    state_to_run(estimate, written);
-    Answer::Fine
+    write_estimate(run, written)
 }
 
 // A filter from 33 numbers of a state, 441 of a covariance and 3 of gravity. What the run held before does not matter.
 pub fn start(run: &mut [f64], numbers: &[f64]) -> Answer
     ensures { λ r. ⌜ outcome r (now (run .exit)) [] ≡ start (now (run .entry)) (now (numbers .entry)) ⌝ }
 {
-    if run.len() != FILTER_LENGTH || numbers.len() != START_LENGTH {
+    if !((run.len() == FILTER_LENGTH) & (numbers.len() == START_LENGTH)) {
         return Answer::Refused(LENGTH_REFUSAL);
     }
     if !all_finite(numbers) {
@@ -191,7 +151,7 @@ pub fn start(run: &mut [f64], numbers: &[f64]) -> Answer
     let sigma = mat21_at(numbers, STATE_LENGTH);
     let gravity = vec3_at(numbers, STATE_LENGTH + 441);
     let filter = EqFilter::new(initial, sigma, gravity);
-    settle(
+    write_filter(
         Answered {
             answer: Answer::Fine,
             filter,
@@ -200,17 +160,85 @@ pub fn start(run: &mut [f64], numbers: &[f64]) -> Answer
     )
 }
 
-// The refusal of a filter's run and a call's numbers before the call is begun, by length or blank; 0 where there is none.
-fn first_refusal(run: &[f64], numbers: &[f64], n: usize) -> u32
-    ensures { λ r. ⌜ r ≡ firstRefusal n (now (run .entry)) (now (numbers .entry)) ⌝ }
+// A call that writes nothing beside the filter.
+fn filter_call(kind: Kind, run: &mut [f64], numbers: &[f64]) -> Answer
+    ensures { λ r. ⌜ outcome r (now (run .exit)) [] ≡ call kind (now (run .entry)) (now (numbers .entry)) [] ⌝ }
 {
-    if run.len() != FILTER_LENGTH || numbers.len() != n {
+    let mut none = [0.0; 0];
+    call(kind, run, numbers, &mut none)
+}
+
+// The refusal of a call before it is begun, by length or blank; 0 where there is none. `written` is how many numbers its run to be written has.
+fn first_refusal(kind: Kind, run: &[f64], numbers: &[f64], written: usize) -> u32
+    ensures { λ r. ⌜ r ≡ firstRefusal kind (now (run .entry)) (now (numbers .entry)) written ⌝ }
+{
+    let lengths_fit = (run.len() == FILTER_LENGTH)
+        & (numbers.len() == call_length(kind))
+        & (written == written_length(kind));
+    if !lengths_fit {
         return LENGTH_REFUSAL;
     }
     if !(all_finite(run) & all_finite(numbers)) {
         return BLANK_REFUSAL;
     }
     0
+}
+
+// The propagation that a call's numbers ask for.
+fn propagation_by(filter: EqFilter, numbers: &[f64]) -> Answered
+    requires { ⌜ length (now numbers) ≡ callLength Propagate ⌝ }
+    ensures { λ r. ⌜ ((run : List Float) → outcomeOf r [] ≡ performed (requestOf Propagate filter (now (numbers .entry))) filter run []) ⌝ }
+{
+    let u = Input {
+        omega: vec3_at(numbers, 0),
+        accel: vec3_at(numbers, 3),
+    };
+    let q = process_noise_at(numbers, 7);
+    filter.propagate(u, numbers[6], q)
+}
+
+// The update by an antenna position that a call's numbers ask for.
+fn position_by(filter: EqFilter, numbers: &[f64]) -> Answered
+    requires { ⌜ length (now numbers) ≡ callLength Position ⌝ }
+    ensures { λ r. ⌜ ((run : List Float) → outcomeOf r [] ≡ performed (requestOf Position filter (now (numbers .entry))) filter run []) ⌝ }
+{
+    filter.update_position(vec3_at(numbers, 0), mat3_at(numbers, 3))
+}
+
+// The update by an antenna velocity that a call's numbers ask for.
+fn velocity_by(filter: EqFilter, numbers: &[f64]) -> Answered
+    requires { ⌜ length (now numbers) ≡ callLength Velocity ⌝ }
+    ensures { λ r. ⌜ ((run : List Float) → outcomeOf r [] ≡ performed (requestOf Velocity filter (now (numbers .entry))) filter run []) ⌝ }
+{
+    filter.update_velocity(
+        vec3_at(numbers, 0),
+        vec3_at(numbers, 3),
+        mat3_at(numbers, 6),
+    )
+}
+
+// The update by a direction that a call's numbers ask for.
+fn direction_by(filter: EqFilter, numbers: &[f64]) -> Answered
+    requires { ⌜ length (now numbers) ≡ callLength Direction ⌝ }
+    ensures { λ r. ⌜ ((run : List Float) → outcomeOf r [] ≡ performed (requestOf Direction filter (now (numbers .entry))) filter run []) ⌝ }
+{
+    filter.update_direction(
+        vec3_at(numbers, 0),
+        vec3_at(numbers, 3),
+        mat3_at(numbers, 6),
+    )
+}
+
+// The general update that a call's numbers ask for.
+fn general_by(filter: EqFilter, numbers: &[f64]) -> Answered
+    requires { ⌜ length (now numbers) ≡ callLength General ⌝ }
+    ensures { λ r. ⌜ ((run : List Float) → outcomeOf r [] ≡ performed (requestOf General filter (now (numbers .entry))) filter run []) ⌝ }
+{
+    filter.update(
+        output_matrix(numbers),
+        vec3_at(numbers, 63),
+        mat3_at(numbers, 66),
+    )
 }
 
 // Eighteen densities from `at` on.
@@ -239,12 +267,12 @@ fn output_matrix(numbers: &[f64]) -> Mat3x21
 }
 
 // The answer as it is given out: refused as range where a result is not finite, else the filter is written.
-fn settle(done: Answered, run: &mut [f64]) -> Answer
+fn write_filter(answered: Answered, run: &mut [f64]) -> Answer
     requires { ⌜ length (now run) ≡ filterLength ⌝ }
-    ensures { λ r. ⌜ outcome r (now (run .exit)) [] ≡ settled (outcomeOf done []) (now (run .entry)) [] ⌝ }
+    ensures { λ r. ⌜ outcome r (now (run .exit)) [] ≡ rangeChecked (outcomeOf answered []) (now (run .entry)) [] ⌝ }
 {
-    let answer = done.answer;
-    let f = done.filter;
+    let answer = answered.answer;
+    let f = answered.filter;
     match answer {
         Answer::Refused(n) => Answer::Refused(n),
         Answer::Fine => {
@@ -262,4 +290,20 @@ fn settle(done: Answered, run: &mut [f64]) -> Answer
             Answer::Nis(r)
         }
     }
+}
+
+// The estimate of a filter, into `written`; refused as range where it is not finite.
+fn write_estimate(run: &[f64], written: &mut [f64]) -> Answer
+    requires { ⌜ (length (now run) ≡ filterLength) × (length (now written) ≡ stateLength) × (allFinite (now run) ≡ true) ⌝ }
+    ensures { λ r. ⌜ outcome r (now (run .entry)) (now (written .exit)) ≡ rangeChecked (performed estimate (fromRun (now (run .entry))) (now (run .entry)) (now (written .entry))) (now (run .entry)) (now (written .entry)) ⌝ }
+{
+    let state = act_state(
+        symmetry_from_run(run),
+        drifters_symmetry::group::State::default(),
+    );
+    if !state_is_finite(state) {
+        return Answer::Refused(RANGE_REFUSAL);
+    }
+    state_to_run(state, written);
+    Answer::Fine
 }

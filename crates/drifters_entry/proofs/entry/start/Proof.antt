@@ -1,33 +1,48 @@
 -- `entry::start` meets its contract.
 use mathlib.Core.Path.{_≡_}
+use mathlib.Core.Bool.{Bool, true, _&&_, and-eq-true-iff}
+use mathlib.Core.List.{List}
 use native.Mathlib.Omega.{arith}
 use borrow.Author.Needs.{needs}
-use borrow.Author.Tests.{eqb-true, eq-eqb, not-true, not-false}
+use borrow.Author.Tests.{eqb-true, not-true, not-false}
 use lib.Dec.{eqb}
 use lib.ListN.{length}
+use lib.Ieee.{Float}
 use Rattle.drifters_entry.specs.Layout.{filterLength}
 use Rattle.drifters_entry.specs.Entry.{startLength, started, start}
-use Rattle.drifters_entry.proofs.Calls.{lengths-differ}
 use Rattle.drifters_entry.proofs.entry.start.Statement.{statement}
 use Rattle.drifters_entry.proofs.entry.start.Tie as tie
+
+-- the lengths, as the code tests them
+abbrev fit : List Float → List Float → Bool
+fit run v = eqb (length run) filterLength && eqb (length v) startLength
 
 returns : tie.Need-returns
 unfolding start
 returns c =
     let a = c .before .before .before .args in
-    rw (lengths-differ (length (a .run .now)) filterLength (length (a .numbers .now)) startLength (λ w. w .taken) (λ w. w .1 .taken) (c .if1 .came))
+    rw (not-true (fit (a .run .now) (a .numbers .now)) (c .if1 .taken))
 
-numbers-length : (c : tie.Else2) → length (c .before .before .before .before .args .numbers .now) ≡ startLength
-numbers-length c =
-    let n = length (c .before .before .before .before .args .numbers .now) in
-    eqb-true n startLength (not-false (eqb n startLength) (c .if2 .left))
+fits : (c : tie.Else1) →
+    let a = c .before .before .before .args in
+    fit (a .run .now) (a .numbers .now) ≡ true
+fits c =
+    let a = c .before .before .before .args in
+    not-false (fit (a .run .now) (a .numbers .now)) (c .if1 .left)
+
+lengths : (c : tie.Else1) →
+    let a = c .before .before .before .args in
+    (length (a .run .now) ≡ filterLength) × (length (a .numbers .now) ≡ startLength)
+lengths c =
+    let a = c .before .before .before .args in
+    let both = and-eq-true-iff (eqb (length (a .run .now)) filterLength) (eqb (length (a .numbers .now)) startLength) .0 (fits c) in
+    (eqb-true _ _ (both .0), eqb-true _ _ (both .1))
 
 returns-2 : tie.Need-returns-2
 unfolding start
 returns-2 c =
     let f = c .before in
-    let l = f .before in
-    rw (eq-eqb _ _ (l .before .if1 .left), eq-eqb _ _ (numbers-length l), ← f .all-finite .ensures, not-true (f .all-finite .result) (c .if3 .taken))
+    rw (fits (f .before), ← f .all-finite .ensures, not-true (f .all-finite .result) (c .if2 .taken))
 
 returns-3 : tie.Need-returns-3
 unfolding start started
@@ -39,9 +54,8 @@ returns-3 c =
     let i = m .before in
     let e = i .before in
     let f = e .before in
-    let l = f .before in
-    rw (eq-eqb _ _ (l .before .if1 .left), eq-eqb _ _ (numbers-length l), ← f .all-finite .ensures, not-false (f .all-finite .result) (e .if3 .left))
-    (rw (n .new .ensures, i .state-from-run .ensures, m .mat21-at .ensures, g .vec3-at .ensures) at (s .settle .ensures))
+    rw (fits (f .before), ← f .all-finite .ensures, not-false (f .all-finite .result) (e .if2 .left))
+    (rw (n .new .ensures, i .state-from-run .ensures, m .mat21-at .ensures, g .vec3-at .ensures) at (s .write-filter .ensures))
 
 pub start-spec : {M : Type 1} → statement M
 start-spec =
@@ -50,11 +64,11 @@ start-spec =
     returns
     (λ c κs. tt)
     returns-2
-    (λ c κs. omega (arith, numbers-length (c .before .before)))
-    (λ c κs. omega (arith, numbers-length (c .before .before .before)))
+    (λ c κs. omega (arith, lengths (c .before .before)))
+    (λ c κs. omega (arith, lengths (c .before .before .before)))
     (λ c. search needs)
-    (λ c κs. omega (arith, numbers-length (c .before .before .before .before)))
+    (λ c κs. omega (arith, lengths (c .before .before .before .before)))
     (λ c κs. tt)
-    (λ c κs. search needs)
+    (λ c κs. lengths (c .before .before .before .before .before .before .before) .0)
     (λ c. search needs)
     returns-3)
