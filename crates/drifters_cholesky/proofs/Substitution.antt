@@ -1,4 +1,4 @@
--- What the loops of `forward_in` and `back_in` over the entries of a row keep. Assumes nothing.
+-- What the loop of `substitute_row` over the entries of a row keeps, and one row more of a substitution. Assumes nothing.
 use mathlib.Core.Path.{_≡_, refl, sym, ap, _∙_}
 use mathlib.Core.Bool.{Bool, true, false, cond}
 use mathlib.Core.List.{List}
@@ -14,7 +14,7 @@ use lib.ListN.{length, getD, set}
 use lib.Seq.{getD-set-same, getD-set-other}
 use lib.Ieee.{Float, nan}
 use Rattle.drifters_matrix.specs.Matrix.{at}
-use Rattle.drifters_cholesky.specs.Cholesky.{subTerms, setRow, forwardRow, forward, backRow, back}
+use Rattle.drifters_cholesky.specs.Cholesky.{subTerms, setRow, substituted, forwardRow, forward, backRow, back}
 use Rattle.drifters_matrix.proofs.Matrix.Grid.{row-in, lt-or-le, matrix-is}
 use Rattle.drifters_cholesky.proofs.SubTerms.{sub-ext}
 
@@ -53,10 +53,10 @@ other-row {c} {i} p q w d a b =
     (lt-or-le p i)
 
 -- entry (i, j) less products with entries of other rows, which are as they were
-pub same-terms : {c i : ℕ} {f : ℕ → Float} {o : List Float} {j : ℕ} {x : List Float} (g : ℕ → Float) (row : ℕ → ℕ) (m : ℕ) → RowReplaced c i f o j x → j < c →
-    ((k : ℕ) → k < m → row k ≢ i) → subTerms (at c x i j) g (λ k. at c x (row k) j) m ≡ subTerms (at c o i j) g (λ k. at c o (row k) j) m
-same-terms {c} {i} {f} {o} {j} {x} g row m w h d =
-    sub-ext g (λ k. at c x (row k) j) (λ k. at c o (row k) j) m (w .left (i * c + j) (le-refl (i * c + j))) (λ k a. other-row (row k) j w (d k a) (omega arith) h)
+pub same-terms : {c i : ℕ} {f : ℕ → Float} {o : List Float} {j : ℕ} {x : List Float} (g : ℕ → Float) (from m : ℕ) → RowReplaced c i f o j x → j < c →
+    ((k : ℕ) → k < m → from + k ≢ i) → subTerms (at c x i j) g (λ k. at c x (from + k) j) m ≡ subTerms (at c o i j) g (λ k. at c o (from + k) j) m
+same-terms {c} {i} {f} {o} {j} {x} g from m w h d =
+    sub-ext g (λ k. at c x (from + k) j) (λ k. at c o (from + k) j) m (w .left (i * c + j) (le-refl (i * c + j))) (λ k a. other-row (from + k) j w (d k a) (omega arith) h)
 
 pub replaced-done : {c i : ℕ} {f : ℕ → Float} {o : List Float} {j : ℕ} {x : List Float} (n : ℕ) → RowReplaced c i f o j x → j ≡ c → length x ≡ n * c → x ≡ setRow n c i f o
 unfolding setRow
@@ -67,10 +67,14 @@ replaced-done {c} {i} {f} {o} {j} {x} n w e s = matrix-is n c _ x s (λ p q h k.
     entry p q k false y = other-row p q w (eqb-false p i y) (omega arith) k
 
 -- one row more
-pub forward-next : (n c : ℕ) (l b : List Float) (i : ℕ) → forward n c l b (i + 1) ≡ forwardRow n c l i (forward n c l b i)
+pub forward-next : (n c : ℕ) (l b : List Float) (i : ℕ) {x x' : List Float} → x ≡ forward n c l b i →
+    x' ≡ substituted n c l i (λ k. getD l (k * 1 + i * n) nan) 0 (i - 0) x → x' ≡ forward n c l b (i + 1)
 unfolding forward
-forward-next n c l b i = rw add-one
+forward-next n c l b i {x} e h =
+    let z : (k : ℕ) → k * 1 + i * n ≡ i * n + k = λ k. omega arith in
+    let m : i - 0 ≡ i = omega arith in
+    h ∙ (λ t. substituted n c l i (λ k. getD l (z k t) nan) 0 (m t) x) ∙ ap (forwardRow n c l i) e ∙ sym (ap (forward n c l b) (add-one i))
 
-pub back-next : (n c : ℕ) (l y : List Float) (p : ℕ) {i : ℕ} → i ≡ n - (p + 1) → back n c l y (p + 1) ≡ backRow n c l i (back n c l y p)
+pub back-next : (n c : ℕ) (l y : List Float) (p : ℕ) {i : ℕ} {x x' : List Float} → i ≡ n - (p + 1) → x ≡ back n c l y p → x' ≡ backRow n c l i x → x' ≡ back n c l y (p + 1)
 unfolding back
-back-next n c l y p e = ap (back n c l y) (add-one p) ∙ ap (λ (i : ℕ). backRow n c l i (back n c l y p)) (sym e)
+back-next n c l y p {i} z e h = h ∙ ap (backRow n c l i) e ∙ ap (λ (q : ℕ). backRow n c l q (back n c l y p)) z ∙ sym (ap (back n c l y) (add-one p))

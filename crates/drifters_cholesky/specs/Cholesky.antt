@@ -55,9 +55,14 @@ cholesky n a = factorRows n a n
 unfoldable pub setRow : ℕ → ℕ → ℕ → (ℕ → Float) → List Float → List Float
 setRow n c i f x = matrix n c (λ p j. cond (eqb p i) (f j) (at c x p j))
 
+-- row i of a substitution: less the products of f k with row k, for m rows k from the given one on, and divided by the pivot
+abbrev pub substituted : ℕ → ℕ → List Float → ℕ → (ℕ → Float) → ℕ → ℕ → List Float → List Float
+substituted n c l i f from m x =
+    setRow n c i (λ j. subTerms (at c x i j) (λ k. f (from + k)) (λ k. at c x (from + k) j) m ⊘ at n l i i) x
+
 -- row i of the forward substitution, after the rows above it
 abbrev pub forwardRow : ℕ → ℕ → List Float → ℕ → List Float → List Float
-forwardRow n c l i x = setRow n c i (λ j. subTerms (at c x i j) (at n l i) (λ k. at c x k j) i ⊘ at n l i i) x
+forwardRow n c l i x = substituted n c l i (at n l i) 0 i x
 
 -- the first i rows of the forward substitution: L Y = B
 unfoldable pub forward : ℕ → ℕ → List Float → List Float → ℕ → List Float
@@ -66,8 +71,7 @@ forward n c l b (suc i) = forwardRow n c l i (forward n c l b i)
 
 -- row i of the back substitution, after the rows below it
 abbrev pub backRow : ℕ → ℕ → List Float → ℕ → List Float → List Float
-backRow n c l i x =
-    setRow n c i (λ j. subTerms (at c x i j) (λ k. at n l (i + 1 + k) i) (λ k. at c x (i + 1 + k) j) (n - (i + 1)) ⊘ at n l i i) x
+backRow n c l i x = substituted n c l i (λ k. at n l k i) (i + 1) (n - (i + 1)) x
 
 -- the last p rows of the back substitution: Lᵀ X = Y
 unfoldable pub back : ℕ → ℕ → List Float → List Float → ℕ → List Float

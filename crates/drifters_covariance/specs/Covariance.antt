@@ -8,7 +8,7 @@ use Rattle.drifters_matrix.specs.Matrix.{matrix, zeros, matmul, mulTranspose, s
 use Rattle.drifters_core.specs.Vec3.{toArray}
 use Rattle.drifters_core.specs.declared.math.vec3.Vec3.{Vec3}
 use Rattle.drifters_lie.specs.Lie.{toArraySe3, vec3At, fromArraySe3, chi, adjointApplySe3}
-use Rattle.drifters_symmetry.specs.Group.{toArray21, fromArray21, unit, ad, adjointApply}
+use Rattle.drifters_symmetry.specs.Group.{attitudeOffset, gyroBiasOffset, leverOffset, magOffset, toArray21, fromArray21, unit, ad, adjointApply}
 use Rattle.drifters_symmetry.specs.Lift.{lift}
 use Rattle.drifters_symmetry.specs.declared.group.Symmetry.{Symmetry}
 use Rattle.drifters_symmetry.specs.declared.group.Algebra.{Algebra}
@@ -36,13 +36,39 @@ inputColumn x estimate gravity k =
 unfoldable pub biasColumn : Symmetry → ℕ → List Float
 biasColumn x k = toArraySe3 (adjointApplySe3 (chi (x .c)) (fromArraySe3 (unit 6 k)))
 
--- the 21 by 18 matrix that maps the noise into normal coordinates
+-- The columns of the noise map are the densities in the order of `psd`, three to each: the first column of each.
+
+-- the gyroscope's noise
+abbrev pub gyroColumn : ℕ
+gyroColumn = 0
+
+-- the accelerometer's noise
+abbrev pub accelColumn : ℕ
+accelColumn = gyroColumn + 3
+
+-- the noise of the gyroscope's bias
+abbrev pub gyroBiasColumn : ℕ
+gyroBiasColumn = accelColumn + 3
+
+-- the noise of the accelerometer's bias
+abbrev pub accelBiasColumn : ℕ
+accelBiasColumn = gyroBiasColumn + 3
+
+-- the noise of the lever arm
+abbrev pub leverColumn : ℕ
+leverColumn = accelBiasColumn + 3
+
+-- the noise of the magnetometer's calibration
+abbrev pub magColumn : ℕ
+magColumn = leverColumn + 3
+
+-- the 21 by 18 matrix that maps the noise into normal coordinates; a block of six columns holds those of the gyroscope and the accelerometer
 unfoldable pub noiseMap : Symmetry → State → Vec3 → List Float
 noiseMap x estimate gravity =
-    let g = setBlock 21 18 21 6 0 0 (zeros 378) (matrix 21 6 (λ i k. getD (inputColumn x estimate gravity k) i nan)) in
-    let g = setBlock 21 18 6 6 9 6 g (negMatrix 36 (matrix 6 6 (λ i k. getD (biasColumn x k) i nan))) in
-    let g = setBlock 21 18 3 3 15 12 g (negMatrix 9 (x .c .rotation .«data»)) in
-    setBlock 21 18 3 3 18 15 g (x .e .«data»)
+    let g = setBlock 21 18 21 6 attitudeOffset gyroColumn (zeros 378) (matrix 21 6 (λ i k. getD (inputColumn x estimate gravity k) i nan)) in
+    let g = setBlock 21 18 6 6 gyroBiasOffset gyroBiasColumn g (negMatrix 36 (matrix 6 6 (λ i k. getD (biasColumn x k) i nan))) in
+    let g = setBlock 21 18 3 3 leverOffset leverColumn g (negMatrix 9 (x .c .rotation .«data»)) in
+    setBlock 21 18 3 3 magOffset magColumn g (x .e .«data»)
 
 -- the densities in the order of `psd`
 abbrev pub psd : ProcessNoise → List Float

@@ -27,7 +27,11 @@ use drifters_matrix::math::shapes::Mat21x3;
 use drifters_matrix::math::shapes::Mat21x6;
 use drifters_matrix::math::shapes::Mat21x18;
 use drifters_matrix::math::shapes::Vector21;
+use drifters_symmetry::group::ATTITUDE;
 use drifters_symmetry::group::Algebra;
+use drifters_symmetry::group::GYRO_BIAS;
+use drifters_symmetry::group::LEVER;
+use drifters_symmetry::group::MAG;
 use drifters_symmetry::group::State;
 use drifters_symmetry::group::Symmetry;
 use drifters_symmetry::lift::Input;
@@ -66,15 +70,29 @@ pub fn process_noise(x: Symmetry, estimate: State, gravity: Vec3, q: ProcessNois
     g.mul_diagonal(psd(q)).mul_transpose(g)
 }
 
-// The 21 by 18 matrix that maps the noise into normal coordinates.
+// The columns of the noise map are the densities in the order of `psd`, three to each: the first column of each.
+const GYRO_COLUMN: usize = 0;
+
+const ACCEL_COLUMN: usize = GYRO_COLUMN + 3;
+
+const GYRO_BIAS_COLUMN: usize = ACCEL_COLUMN + 3;
+
+const ACCEL_BIAS_COLUMN: usize = GYRO_BIAS_COLUMN + 3;
+
+const LEVER_COLUMN: usize = ACCEL_BIAS_COLUMN + 3;
+
+const MAG_COLUMN: usize = LEVER_COLUMN + 3;
+
+// The 21 by 18 matrix that maps the noise into normal coordinates. A block of six columns holds those of the gyroscope and the
+// accelerometer.
 fn noise_map(x: Symmetry, estimate: State, gravity: Vec3) -> Mat21x18
     ensures { λ r. ⌜ r .data ≡ noiseMap x estimate gravity ⌝ }
 {
     let g = Mat21x18::zeros();
-    let g = g.set_block21x6(0, 0, input_columns(x, estimate, gravity));
-    let g = g.set_block6(9, 6, bias_columns(x).neg());
-    let g = g.set_block(15, 12, x.a().neg());
-    g.set_block(18, 15, x.e)
+    let g = g.set_block21x6(ATTITUDE, GYRO_COLUMN, input_columns(x, estimate, gravity));
+    let g = g.set_block6(GYRO_BIAS, GYRO_BIAS_COLUMN, bias_columns(x).neg());
+    let g = g.set_block(LEVER, LEVER_COLUMN, x.a().neg());
+    g.set_block(MAG, MAG_COLUMN, x.e)
 }
 
 // The columns of the input noise.

@@ -1,5 +1,5 @@
 -- Port of group.rs: the symmetry group, its algebra, and its action on the state. Definitions only.
-use Prim.Native.Nat.{ℕ}
+use Prim.Native.Nat.{ℕ, _+_}
 use mathlib.Core.List.{List, _++_}
 use lib.ListN.{getD, set}
 use lib.Ieee.{Float, nan}
@@ -8,11 +8,42 @@ use Rattle.drifters_matrix.specs.Matrix.{matrix, zeros, matmul}
 use Rattle.drifters_core.specs.Vec3.{zeroVec3, toArray, cross, addVec3, subVec3, negVec3, mulVec3, mulMat3Vec3}
 use Rattle.drifters_quat.specs.Quat.{fromRotationVector, toDcm}
 use Rattle.drifters_core.specs.declared.math.vec3.Vec3.{Vec3}
-use Rattle.drifters_lie.specs.Lie.{identity3, matmul3, transpose3, se23Tangent, zeroSe3Tangent, toArraySe23, scaledSe23, pi, toArraySe3, vec3At, se3TangentAt, fromArraySe3, bracketSe3, addSe3, subSe3, negSe3, leftJacobian, identitySe23, composeSe23, inverseSe23, adjointApplySe23, chi, expSe23, inverseSe3, adjointApplySe3}
+use Rattle.drifters_lie.specs.Lie.{identity3, matmul3, transpose3, se23Tangent, se3Tangent, zeroSe3Tangent, toArraySe23, scaledSe23, pi, toArraySe3, vec3At, fromArraySe3, bracketSe3, addSe3, subSe3, negSe3, leftJacobian, identitySe23, composeSe23, inverseSe23, adjointApplySe23, chi, expSe23, inverseSe3, adjointApplySe3}
 use Rattle.drifters_adjoint.specs.Adjoint.{integratedAdjoint, scaledSe3}
 use Rattle.drifters_symmetry.specs.declared.group.Symmetry.{Symmetry}
 use Rattle.drifters_symmetry.specs.declared.group.Algebra.{Algebra}
 use Rattle.drifters_symmetry.specs.declared.group.State.{State}
+
+-- The 21 coordinates of the error, and of its covariance: the error of the estimate in the normal coordinates of the group, three to each
+-- part of an algebra element. Each offset is the place of the first of the three.
+
+-- attitude, in rad: `omega` of `c`
+abbrev pub attitudeOffset : ℕ
+attitudeOffset = 0
+
+-- velocity, in m/s: `nu` of `c`
+abbrev pub velocityOffset : ℕ
+velocityOffset = attitudeOffset + 3
+
+-- position, in m: `rho` of `c`
+abbrev pub positionOffset : ℕ
+positionOffset = velocityOffset + 3
+
+-- gyroscope bias, in rad/s: `omega` of `gamma`
+abbrev pub gyroBiasOffset : ℕ
+gyroBiasOffset = positionOffset + 3
+
+-- accelerometer bias, in m/s²: `nu` of `gamma`
+abbrev pub accelBiasOffset : ℕ
+accelBiasOffset = gyroBiasOffset + 3
+
+-- lever arm, in m: `delta`
+abbrev pub leverOffset : ℕ
+leverOffset = accelBiasOffset + 3
+
+-- magnetometer calibration, in rad: `e`
+abbrev pub magOffset : ℕ
+magOffset = leverOffset + 3
 
 -- the product; the rotation block A is `x .c .rotation`, and B is `chi (x .c)`
 unfoldable pub compose : Symmetry → Symmetry → Symmetry
@@ -43,10 +74,10 @@ scaledAlgebra u s = record { c = scaledSe23 (u .c) s; gamma = scaledSe3 (u .gamm
 -- from 21 numbers
 abbrev pub fromArray21 : List Float → Algebra
 fromArray21 v = record {
-  c = se23Tangent (vec3At v 0) (vec3At v 3) (vec3At v 6);
-  gamma = se3TangentAt v 9;
-  delta = vec3At v 15;
-  e = vec3At v 18;
+  c = se23Tangent (vec3At v attitudeOffset) (vec3At v velocityOffset) (vec3At v positionOffset);
+  gamma = se3Tangent (vec3At v gyroBiasOffset) (vec3At v accelBiasOffset);
+  delta = vec3At v leverOffset;
+  e = vec3At v magOffset;
 }
 
 -- the Lie bracket
@@ -96,7 +127,7 @@ adjointApply x u =
 abbrev pub defaultState : State
 defaultState = record { pose = identitySe23; bias = zeroSe3Tangent; lever = zeroVec3; mag = identity3 }
 
--- the group element that carries the origin to xi
+-- the group element that takes the origin to xi
 unfoldable pub fromState : State → Symmetry
 fromState xi = record {
   c = xi .pose;

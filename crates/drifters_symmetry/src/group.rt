@@ -1,7 +1,7 @@
 // Port of group.rs: the symmetry group, its algebra, and its action on the state, by value.
 ghost use mathlib.Core.Path.{_≡_};
-ghost use Prim.Native.Nat.{_<_};
-ghost use Rattle.drifters_lie.specs.Lie.{chi};
+ghost use Prim.Native.Nat.{_+_, _≤_, _<_};
+ghost use Rattle.drifters_lie.specs.Lie.{vec3At, chi};
 ghost use Rattle.drifters_symmetry.specs.Group.{compose, inverse, toArray21, scaledAlgebra, fromArray21, bracket, unit, ad, exp, adjointApply, defaultState, fromState, actState, actDirection, actPosition, actVelocity};
 use drifters_adjoint::adjoint::integrated_adjoint;
 use drifters_core::math::vec3::Vec3;
@@ -16,6 +16,23 @@ use drifters_matrix::math::shapes::Mat3;
 use drifters_matrix::math::shapes::Mat21;
 use drifters_matrix::math::shapes::Vector6;
 use drifters_quat::math::quat::Quat;
+
+// The 21 coordinates of the error, and of its covariance: the error of the estimate in the normal coordinates of the group, three to each
+// part, in this order: attitude (rad), velocity (m/s), position (m), gyroscope bias (rad/s), accelerometer bias (m/s²), lever arm (m),
+// magnetometer calibration (rad).
+pub const ATTITUDE: usize = 0;
+
+pub const VELOCITY: usize = ATTITUDE + 3;
+
+pub const POSITION: usize = VELOCITY + 3;
+
+pub const GYRO_BIAS: usize = POSITION + 3;
+
+pub const ACCEL_BIAS: usize = GYRO_BIAS + 3;
+
+pub const LEVER: usize = ACCEL_BIAS + 3;
+
+pub const MAG: usize = LEVER + 3;
 
 // An element of the symmetry group: C acts on the extended pose, gamma is the bias part, delta the lever arm's, E the
 // magnetometer calibration's.
@@ -103,7 +120,7 @@ impl Symmetry {
         }
     }
 
-    // The element that carries the origin to xi.
+    // The element that takes the origin to xi.
     pub fn from_state(xi: State) -> Symmetry
         ensures { λ r. ⌜ r ≡ fromState xi ⌝ }
     {
@@ -116,7 +133,7 @@ impl Symmetry {
     }
 }
 
-// A tangent vector of the symmetry group at the identity: 21 numbers, in the order of every 21 by 21 matrix.
+// A tangent vector of the symmetry group at the identity: the 21 coordinates, in their order.
 pub struct Algebra {
     pub c: Se23Tangent,
     pub gamma: Se3Tangent,
@@ -179,16 +196,13 @@ impl Algebra {
     {
         Algebra {
             c: Se23Tangent::new(
-                Vec3::new(v[0], v[1], v[2]),
-                Vec3::new(v[3], v[4], v[5]),
-                Vec3::new(v[6], v[7], v[8]),
+                vec3_at(&v, ATTITUDE),
+                vec3_at(&v, VELOCITY),
+                vec3_at(&v, POSITION),
             ),
-            gamma: Se3Tangent::new(
-                Vec3::new(v[9], v[10], v[11]),
-                Vec3::new(v[12], v[13], v[14]),
-            ),
-            delta: Vec3::new(v[15], v[16], v[17]),
-            e: Vec3::new(v[18], v[19], v[20]),
+            gamma: Se3Tangent::new(vec3_at(&v, GYRO_BIAS), vec3_at(&v, ACCEL_BIAS)),
+            delta: vec3_at(&v, LEVER),
+            e: vec3_at(&v, MAG),
         }
     }
 
@@ -230,6 +244,14 @@ impl Algebra {
         basis[k] = 1.0;
         self.bracket(Algebra::from_array(basis)).to_array()
     }
+}
+
+// The three coordinates from `start` on.
+fn vec3_at(v: &[f64; 21], start: usize) -> Vec3
+    requires { ⌜ start + 3 ≤ 21 ⌝ }
+    ensures { λ r. ⌜ r ≡ vec3At (now (v .entry)) start ⌝ }
+{
+    Vec3::new(v[start], v[start + 1], v[start + 2])
 }
 
 // A point of the state manifold: extended pose, biases of the gyroscope and the accelerometer, lever arm, magnetometer calibration.

@@ -1,10 +1,12 @@
 // Port of `Cholesky` of math/matrix.rs: factoring and solving over the width, and the record at width 3.
 ghost use mathlib.Core.Path.{_≡_};
 ghost use mathlib.Core.Bool.{cond};
-ghost use Prim.Native.Nat.{_*_};
-ghost use lib.ListN.{length};
+ghost use mathlib.Core.Logic.{_≢_};
+ghost use Prim.Native.Nat.{ℕ, _+_, _-_, _*_, _≤_, _<_};
+ghost use lib.Ieee.{nan};
+ghost use lib.ListN.{length, getD};
 ghost use Rattle.drifters_matrix.specs.Matrix.{zeros};
-ghost use Rattle.drifters_cholesky.specs.Cholesky.{none, lower, cholesky, forward, back, solve};
+ghost use Rattle.drifters_cholesky.specs.Cholesky.{none, lower, cholesky, substituted, forward, back, solve};
 ghost use Rattle.drifters_cholesky.specs.Cholesky.{factored3};
 use drifters_matrix::math::shapes::Mat3;
 use drifters_matrix::math::shapes::Mat3x21;
@@ -39,19 +41,38 @@ fn cholesky_into(a: &[f64], l: &mut [f64], n: usize) -> bool
     definite
 }
 
+// Row i of a substitution: less the products of the rows `from` to `to` of `x` with their factors, and divided by the pivot. The factor of
+// row k stands in `l` at k * stride + start.
+fn substitute_row(
+    l: &[f64],
+    x: &mut [f64],
+    n: usize,
+    c: usize,
+    i: usize,
+    from: usize,
+    to: usize,
+    start: usize,
+    stride: usize,
+)
+    requires { ⌜ (length (now l) ≡ n * n) × (length (now x) ≡ n * c) × (i < n) × (from ≤ to) × (to ≤ n) × ((k : ℕ) → from ≤ k → k < to → (k ≢ i) × (k * stride + start < n * n)) ⌝ }
+    ensures { λ _. ⌜ now (x .exit) ≡ substituted n c (now (l .entry)) i (λ k. getD (now (l .entry)) (k * stride + start) nan) from (to - from) (now (x .entry)) ⌝ }
+{
+    for j in 0..c {
+        let mut sum = x[i * c + j];
+        for k in from..to {
+            sum = sum - l[k * stride + start] * x[k * c + j];
+        }
+        x[i * c + j] = sum / l[i * n + i];
+    }
+}
+
 // Forward substitution: L Y = B, the n by c matrix `x` from B to Y.
 fn forward_in(l: &[f64], x: &mut [f64], n: usize, c: usize)
     requires { ⌜ (length (now l) ≡ n * n) × (length (now x) ≡ n * c) ⌝ }
     ensures { λ _. ⌜ now (x .exit) ≡ forward n c (now (l .entry)) (now (x .entry)) n ⌝ }
 {
     for i in 0..n {
-        for j in 0..c {
-            let mut sum = x[i * c + j];
-            for k in 0..i {
-                sum = sum - l[i * n + k] * x[k * c + j];
-            }
-            x[i * c + j] = sum / l[i * n + i];
-        }
+        substitute_row(l, x, n, c, i, 0, i, i * n, 1);
     }
 }
 
@@ -62,13 +83,7 @@ fn back_in(l: &[f64], x: &mut [f64], n: usize, c: usize)
 {
     for p in 0..n {
         let i = n - 1 - p;
-        for j in 0..c {
-            let mut sum = x[i * c + j];
-            for k in i + 1..n {
-                sum = sum - l[k * n + i] * x[k * c + j];
-            }
-            x[i * c + j] = sum / l[i * n + i];
-        }
+        substitute_row(l, x, n, c, i, i + 1, n, i, n);
     }
 }
 

@@ -14,10 +14,10 @@ use lib.Ieee.{Float, nan, unlike, le}
 use Rattle.drifters_real.specs.Scalar.{plusZero}
 use Rattle.drifters_real.specs.Real.{sqrt, isFinite}
 use Rattle.drifters_matrix.specs.Matrix.{at}
-use Rattle.drifters_cholesky.specs.Cholesky.{Factor, none, lower, badPivot, reduced, factorEntry, factorColumns, factorRows, cholesky, setRow, forward, back, solve}
+use Rattle.drifters_cholesky.specs.Cholesky.{Factor, none, lower, badPivot, reduced, factorEntry, factorColumns, factorRows, cholesky, setRow, substituted, forward, back, solve}
 use Rattle.drifters_demands.specs.Like.{Like, LikeMatrix}
 use Rattle.drifters_matrix.proofs.Matrix.Grid.{at-in, same-place}
-use Rattle.drifters_demands.proofs.Signs.Sign.{unlike-same, signs}
+use Rattle.drifters_demands.proofs.Signs.Sign.{unlike-same, unlike-comm, signs}
 use Rattle.drifters_demands.proofs.Signs.Like.{cond-keeps, cond-keeps-same, like-as, like-refl}
 use Rattle.drifters_demands.proofs.Signs.Ops.{like-mul-as, like-div-equal}
 use Rattle.drifters_demands.proofs.Signs.Compare.{like-le, like-not-le-zero}
@@ -169,33 +169,30 @@ like-setRow {σ} {τ} i k X =
     (λ e. X .entry p j P J))
 
 module _ {σ τ : ℕ → Bool} {n c : ℕ} {l l' : List Float} (h : LikeLower σ n n l l') where
-  pub like-forward : {b b' : List Float} (i : ℕ) → i ≤ n → LikeMatrix σ τ n c b b' → LikeMatrix σ τ n c (forward n c l b i) (forward n c l' b' i)
-  unfolding forward
-  like-forward zero I B = B
-  like-forward {b} {b'} (suc i) I B =
-      let X : LikeMatrix σ τ n c (forward n c l b i) (forward n c l' b' i) = like-forward i (omega arith) B in
+  -- row i of a substitution, with factors that take the signs of their rows and of row i
+  like-substituted : {f f' : ℕ → Float} {x x' : List Float} (i from m : ℕ) → i < n → from + m ≤ n → ((k : ℕ) → k < n → Like (unlike (σ i) (σ k)) (f k) (f' k)) → LikeMatrix σ τ n c x x'
+      → LikeMatrix σ τ n c (substituted n c l i f from m x) (substituted n c l' i f' from m x')
+  like-substituted i from m I M F X =
       like-setRow i
       (λ j J.
       like-div-equal
-      (like-subTerms _ _ _ _ i (X .entry i j I J)
-      (λ k K. let N : k < n = omega arith in like-mul-as (h .alike .entry i k I N) (X .entry k j N J) (simp signs)))
+      (like-subTerms _ _ _ _ m (X .entry i j I J)
+      (λ k K. let N : from + k < n = omega arith in like-mul-as (F (from + k) N) (X .entry (from + k) j N J) (simp signs)))
       (h .pivots i I))
       X
+
+  pub like-forward : {b b' : List Float} (i : ℕ) → i ≤ n → LikeMatrix σ τ n c b b' → LikeMatrix σ τ n c (forward n c l b i) (forward n c l' b' i)
+  unfolding forward
+  like-forward zero I B = B
+  like-forward (suc i) I B = like-substituted i 0 i I (omega arith) (λ k K. h .alike .entry i k I K) (like-forward i (omega arith) B)
 
   pub like-back : {y y' : List Float} (p : ℕ) → p ≤ n → LikeMatrix σ τ n c y y' → LikeMatrix σ τ n c (back n c l y p) (back n c l' y' p)
   unfolding back
   like-back zero P Y = Y
-  like-back {y} {y'} (suc p) P Y =
-      let X : LikeMatrix σ τ n c (back n c l y p) (back n c l' y' p) = like-back p (omega arith) Y in
+  like-back (suc p) P Y =
       let i : ℕ = n - (p + 1) in
       let I : i < n = omega arith in
-      like-setRow i
-      (λ j J.
-      like-div-equal
-      (like-subTerms _ _ _ _ (n - (i + 1)) (X .entry i j I J)
-      (λ k K. let N : i + 1 + k < n = omega arith in like-mul-as (h .alike .entry (i + 1 + k) i N I) (X .entry (i + 1 + k) j N J) (simp signs)))
-      (h .pivots i I))
-      X
+      like-substituted i (i + 1) (n - (i + 1)) I (omega arith) (λ k K. like-as (unlike-comm (σ k) (σ i)) (h .alike .entry k i K I)) (like-back p (omega arith) Y)
 
   pub like-solve : {b b' : List Float} → LikeMatrix σ τ n c b b' → LikeMatrix σ τ n c (solve n c l b) (solve n c l' b')
   unfolding solve

@@ -9,6 +9,7 @@ use Rattle.drifters_core.specs.Vec3.{zeroVec3, skew, addVec3, mulMat3Vec3}
 use Rattle.drifters_core.specs.declared.math.vec3.Vec3.{Vec3}
 use Rattle.drifters_matrix.specs.declared.math.shapes.Mat3.{Mat3}
 use Rattle.drifters_lie.specs.Lie.{se23Tangent, pi, adSe3, addSe3, addSe23, adjointApplySe23}
+use Rattle.drifters_symmetry.specs.Group.{attitudeOffset, velocityOffset, positionOffset, gyroBiasOffset, accelBiasOffset, leverOffset, magOffset}
 use Rattle.drifters_symmetry.specs.Linear.{stateMatrix}
 use Rattle.drifters_lie.specs.declared.lie.Se23Tangent.{Se23Tangent}
 use Rattle.drifters_lie.specs.declared.lie.Se3Tangent.{Se3Tangent}
@@ -54,25 +55,25 @@ returns c =
     let c2 = c3 .before .before in
     let c1 = c2 .before .before in
     let start = c1 .before .before .before .args in
-    let m1 = placed 3 3 0 (c1 .set-block .ensures) (c1 .before .before .zeros .ensures) (entries (c1 .before .skew .ensures)) in
-    let m2 = placed 3 6 3 (c2 .set-block2 .ensures) m1 (c2 .before .identity .ensures) in
-    let m3 = placed 3 0 9 (c3 .set-block3 .ensures) m2 (c3 .before .identity2 .ensures) in
-    let m4 = placed 3 3 12 (c4 .set-block4 .ensures) m3 (c4 .before .identity3 .ensures) in
-    let m5 = placed 3 6 9 (c5 .set-block5 .ensures) m4 (entries (c5 .before .skew2 .ensures)) in
+    let m1 = placed 3 velocityOffset attitudeOffset (c1 .set-block .ensures) (c1 .before .before .zeros .ensures) (entries (c1 .before .skew .ensures)) in
+    let m2 = placed 3 positionOffset velocityOffset (c2 .set-block2 .ensures) m1 (c2 .before .identity .ensures) in
+    let m3 = placed 3 attitudeOffset gyroBiasOffset (c3 .set-block3 .ensures) m2 (c3 .before .identity2 .ensures) in
+    let m4 = placed 3 velocityOffset accelBiasOffset (c4 .set-block4 .ensures) m3 (c4 .before .identity3 .ensures) in
+    let m5 = placed 3 positionOffset gyroBiasOffset (c5 .set-block5 .ensures) m4 (entries (c5 .before .skew2 .ensures)) in
     let a = c6 .before .before .before .before in
     let b =
     biases (start .x) (start .u) (start .gravity)
     (a .before .before .before .new .ensures) (a .before .before .new2 .ensures) (a .before .adjoint-apply .ensures)
     (a .add .ensures) (c6 .before .before .before .pi .ensures) (c6 .before .before .add2 .ensures) (c6 .before .ad .ensures) in
-    let m6 = placed 6 9 9 (c6 .set-block6 .ensures) m5 b in
+    let m6 = placed 6 gyroBiasOffset gyroBiasOffset (c6 .set-block6 .ensures) m5 b in
     let a3 =
     rates (start .x) (start .u)
     (c7 .before .before .before .before .a .ensures) (c7 .before .before .before .mul-vec3 .ensures)
     (c7 .before .before .add3 .ensures) (c7 .before .skew3 .ensures) in
-    let m7 = placed 3 15 15 (c7 .set-block7 .ensures) m6 (entries a3) in
-    let m8 = placed 3 18 18 (c8 .set-block8 .ensures) m7 (entries a3) in
-    let m9 = placed 3 18 0 (c9 .set-block9 .ensures) m8 (negated (c9 .before .neg .ensures) a3) in
-    placed 3 18 9 (c .set-block10 .ensures) m9 (c .before .identity4 .ensures)
+    let m7 = placed 3 leverOffset leverOffset (c7 .set-block7 .ensures) m6 (entries a3) in
+    let m8 = placed 3 magOffset magOffset (c8 .set-block8 .ensures) m7 (entries a3) in
+    let m9 = placed 3 magOffset attitudeOffset (c9 .set-block9 .ensures) m8 (negated (c9 .before .neg .ensures) a3) in
+    placed 3 magOffset gyroBiasOffset (c .set-block10 .ensures) m9 (c .before .identity4 .ensures)
 
 pub state-matrix-spec : {M : Type 1} → statement M
 state-matrix-spec =
