@@ -197,7 +197,8 @@ impl EqFilter {
         if !turn_fits(step) {
             return refuse(TURN_REFUSAL, self);
         }
-        let x = Symmetry::exp(step).compose(self.x);
+        let change = Symmetry::exp(step);
+        let x = change.compose(self.x);
         let corrected = joseph(&self.sigma.data, kc, noise);
         let mut out = [0.0; 441];
         reset(step, &corrected.data, &mut out);
