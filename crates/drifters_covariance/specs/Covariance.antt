@@ -26,7 +26,7 @@ transition a dt =
 abbrev pub inputAt : List Float → ℕ → Input
 inputAt v i = record { omega = vec3At v i; accel = vec3At v (i + 3) }
 
--- column k of the input noise: the lift at unit input k less the lift at zero input, carried by x
+-- column k of the input noise: the lift at unit input k less the lift at zero input, transformed by the adjoint of x
 unfoldable pub inputColumn : Symmetry → State → Vec3 → ℕ → List Float
 inputColumn x estimate gravity k =
     let quiet = toArray21 (lift estimate (inputAt (zeros 6) 0) gravity) in
@@ -70,7 +70,7 @@ noiseMap x estimate gravity =
     let g = setBlock 21 18 3 3 leverOffset leverColumn g (negMatrix 9 (x .c .rotation .«data»)) in
     setBlock 21 18 3 3 magOffset magColumn g (x .e .«data»)
 
--- the densities in the order of `psd`
+-- the densities by column: gyro rad²/s, accel (m/s)²/s, gyro_bias (rad/s)²/s, accel_bias (m/s²)²/s, lever m²/s, mag rad²/s
 abbrev pub psd : ProcessNoise → List Float
 psd q = toArray (q .gyro) ++ toArray (q .accel) ++ toArray (q .«gyro_bias») ++ toArray (q .«accel_bias») ++ toArray (q .lever) ++ toArray (q .mag)
 
@@ -80,13 +80,13 @@ processNoise x estimate gravity q =
     let g = noiseMap x estimate gravity in
     mulTranspose 21 18 21 (matmul 21 18 18 g (fromDiagonal 18 (psd q))) g
 
--- the Joseph form (I - k c) sigma (I - k c)ᵀ + k noise kᵀ
-unfoldable pub joseph : ℕ → List Float → List Float → List Float → List Float → List Float
-joseph w sigma k c noise =
-    let ikc = subMatrix 441 (identity 21) (matmul 21 w 21 k c) in
-    addMatrix 441 (mulTranspose 21 21 21 (matmul 21 21 21 ikc sigma) ikc) (mulTranspose 21 w 21 (matmul 21 w w k noise) k)
+-- the Joseph form (I - kc) sigma (I - kc)ᵀ + noise, for kc the gain times the output matrix and noise the gain's share of the measurement noise, k noise kᵀ
+unfoldable pub joseph : List Float → List Float → List Float → List Float
+joseph sigma kc noise =
+    let ikc = subMatrix 441 (identity 21) kc in
+    addMatrix 441 (mulTranspose 21 21 21 (matmul 21 21 21 ikc sigma) ikc) noise
 
--- the covariance carried through the reset I + ½ ad
+-- the covariance after the reset I + ½ ad, which moves it into the coordinates of the error measured from the corrected estimate
 unfoldable pub resetSigma : Algebra → List Float → List Float
 resetSigma step sigma =
     let reset = addMatrix 441 (identity 21) (scaled 441 (ad step) half) in

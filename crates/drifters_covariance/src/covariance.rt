@@ -19,11 +19,8 @@ use drifters_matrix::math::in_place::set_column6;
 use drifters_matrix::math::in_place::set_column21x6;
 use drifters_matrix::math::in_place::sub21;
 use drifters_matrix::math::in_place::transpose21;
-use drifters_matrix::math::shapes::Mat3;
-use drifters_matrix::math::shapes::Mat3x21;
 use drifters_matrix::math::shapes::Mat6;
 use drifters_matrix::math::shapes::Mat21;
-use drifters_matrix::math::shapes::Mat21x3;
 use drifters_matrix::math::shapes::Mat21x6;
 use drifters_matrix::math::shapes::Mat21x18;
 use drifters_matrix::math::shapes::Vector21;
@@ -37,13 +34,20 @@ use drifters_symmetry::group::Symmetry;
 use drifters_symmetry::lift::Input;
 use drifters_symmetry::lift::lift;
 
-// The power spectral densities of the process noise, per axis.
+// The power spectral densities of the process noise, per axis. The first two are white noise of the sensors, which the input brings in: their
+// unit is the square of what is measured, per hertz. The others are random walks of states: the square of the state's unit, per second.
 pub struct ProcessNoise {
+    // (rad/s)²/Hz, that is rad²/s: drives the attitude.
     pub gyro: Vec3,
+    // (m/s²)²/Hz, that is (m/s)²/s: drives the velocity.
     pub accel: Vec3,
+    // (rad/s)²/s: drives the bias of the gyroscope.
     pub gyro_bias: Vec3,
+    // (m/s²)²/s: drives the bias of the accelerometer.
     pub accel_bias: Vec3,
+    // m²/s: drives the lever arm of the antenna; 0 where it is fixed.
     pub lever: Vec3,
+    // rad²/s, that is 1/s: drives the magnetometer's rotation; 0 where it is fixed.
     pub mag: Vec3,
 }
 
@@ -108,7 +112,7 @@ fn input_columns(x: Symmetry, estimate: State, gravity: Vec3) -> Mat21x6
     Mat21x6 { data }
 }
 
-// Column k of the input noise: the lift at unit input k less the quiet one, carried by x.
+// Column k of the input noise: the lift at unit input k less the quiet one, transformed by the adjoint of x.
 fn input_column(
     x: Symmetry,
     estimate: State,
@@ -190,22 +194,22 @@ fn psd(q: ProcessNoise) -> [f64; 18]
     ]
 }
 
-// The Joseph form of the covariance after a correction with the gain.
-pub fn joseph(sigma: &[f64; 441], gain: Mat21x3, c: Mat3x21, noise: Mat3) -> Mat21
-    ensures { λ r. ⌜ r .data ≡ joseph 3 (now (sigma .entry)) (gain .data) (c .data) (noise .data) ⌝ }
+// The Joseph form (I - kc) Σ (I - kc)ᵀ + noise, for kc the gain times the output matrix and noise the gain's share of the measurement
+// noise. It takes these products, which are 21 by 21 at any number of measured values, and not the gain.
+pub fn joseph(sigma: &[f64; 441], kc: &[f64; 441], noise: &[f64; 441]) -> Mat21
+    ensures { λ r. ⌜ r .data ≡ joseph (now (sigma .entry)) (now (kc .entry)) (now (noise .entry)) ⌝ }
 {
     let one = Mat21::identity();
     let mut ikc = one.data;
-    let kc = gain.matmul21(c);
-    sub21(&mut ikc, &kc.data);
-    let mut carried = [0.0; 441];
-    congruence(&ikc, sigma, &mut carried);
-    let spread = gain.matmul3(noise).mul_transpose(gain);
-    add21(&mut carried, &spread.data);
-    Mat21 { data: carried }
+    sub21(&mut ikc, kc);
+    let mut out = [0.0; 441];
+    congruence(&ikc, sigma, &mut out);
+    add21(&mut out, noise);
+    Mat21 { data: out }
 }
 
-// The covariance carried through the reset I + ½ ad, into `out`.
+// The covariance after the reset I + ½ ad, into `out`. Once the correction is applied the error is measured from the new estimate; this moves
+// the covariance into its coordinates, to first order.
 pub fn reset(step: Algebra, sigma: &[f64; 441], out: &mut [f64; 441])
     ensures { λ _. ⌜ now (out .exit) ≡ resetSigma step (now (sigma .entry)) ⌝ }
 {
@@ -216,7 +220,7 @@ pub fn reset(step: Algebra, sigma: &[f64; 441], out: &mut [f64; 441])
     congruence(&m, sigma, out);
 }
 
-// The covariance carried by `m`, m Σ mᵀ, into `out`. The matrices are lent, so that none is copied. The second product is made as the
+// The covariance transformed by `m`, m Σ mᵀ, into `out`. The matrices are lent, so that none is copied. The second product is made as the
 // transpose of m (m Σ)ᵀ, which has the same bits, so that the zeros of m, which has many, are skipped in both.
 pub fn congruence(m: &[f64; 441], sigma: &[f64; 441], out: &mut [f64; 441])
     ensures { λ _. ⌜ now (out .exit) ≡ mulTranspose 21 21 21 (matmul 21 21 21 (now (m .entry)) (now (sigma .entry))) (now (m .entry)) ⌝ }

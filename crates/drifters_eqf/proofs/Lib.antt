@@ -1,2 +1,3 @@
 -- The laws that the proofs of the functions rest on.
 pub mod Factored
+pub mod Gain

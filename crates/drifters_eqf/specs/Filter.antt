@@ -54,7 +54,7 @@ navState f = actState (f .x) defaultState
 unfoldable pub halfStep : EqFilter → Input → Float → Algebra
 halfStep f u dt = scaledAlgebra (lift (navState f) u (f .gravity)) (half ⊗ dt)
 
--- the observer's state at the midpoint
+-- the observer's state half a step on, where the lift is taken again: it changes over the step, and so the step is second order in dt
 unfoldable pub midpoint : EqFilter → Input → Float → Symmetry
 midpoint f u dt = compose (f .x) (exp (halfStep f u dt))
 
@@ -62,7 +62,7 @@ midpoint f u dt = compose (f .x) (exp (halfStep f u dt))
 unfoldable pub fullStep : EqFilter → Input → Float → Algebra
 fullStep f u dt = scaledAlgebra (lift (actState (midpoint f u dt) defaultState) u (f .gravity)) dt
 
--- the covariance after propagation: x is the new state of the observer, the estimate the old one
+-- the covariance after propagation: x is the observer's new state, the estimate the old one; |dt|, since noise adds backwards in time too
 unfoldable pub propagatedSigma : EqFilter → Input → Float → ProcessNoise → List Float
 propagatedSigma f u dt q =
     let x = compose (f .x) (exp (fullStep f u dt)) in
@@ -97,37 +97,54 @@ unfoldable pub rawFactor : ℕ → EqFilter → List Float → List Float → Fa
 rawFactor w f c noise = cholesky w (addMatrix (w * w) (projected w f c) noise)
 
 -- the factor of the inflated innovation covariance
-unfoldable pub inflatedFactor : ℕ → EqFilter → List Float → List Float → List Float → Factor
-inflatedFactor w f c y noise = cholesky w (inflate w y (projected w f c) noise (f .alpha))
+unfoldable pub inflatedFactor : ℕ → EqFilter → List Float → List Float → List Float → Float → Factor
+inflatedFactor w f c y noise alpha = cholesky w (inflate w y (projected w f c) noise alpha)
 
--- the 21 by w gain, by solving with the inflated factor
-unfoldable pub gain : ℕ → EqFilter → List Float → List Float → List Float → List Float
-gain w f c y noise = transpose w 21 (solve w 21 (entriesOf (inflatedFactor w f c y noise)) (matmul w 21 21 c (f .sigma .«data»)))
+-- the 21 by w gain sigma cᵀ S⁻¹ for the inflated S: S is symmetric, so it is the transpose of a solve, which rounds less than an inverse
+unfoldable pub gain : ℕ → EqFilter → List Float → List Float → List Float → Float → List Float
+gain w f c y noise alpha = transpose w 21 (solve w 21 (entriesOf (inflatedFactor w f c y noise alpha)) (matmul w 21 21 c (f .sigma .«data»)))
 
--- the correction as an algebra element
-unfoldable pub correction : ℕ → List Float → List Float → Algebra
-correction w k y = fromArray21 (matmul 21 w 1 k y)
+-- what an update of any width applies to the filter, for the gain k: k y, k c and k noise kᵀ
+pub record Correction : Type 0 where
+  pub delta : List Float
+  pub kc : List Float
+  pub noise : List Float
 
--- the filter after an update with the gain k
-unfoldable pub updated : ℕ → EqFilter → List Float → List Float → List Float → List Float → EqFilter
-updated w f k c y noise =
-    let step = correction w k y in
-    record {
-      x = compose (exp step) (f .x);
-      sigma = record { «data» = symmetrize 21 (resetSigma step (joseph w (f .sigma .«data») k c noise)) };
-      gravity = f .gravity;
-      alpha = f .alpha;
-    }
+-- the correction of a gain k
+unfoldable pub correction : ℕ → List Float → List Float → List Float → List Float → Correction
+correction w k c y noise = record {
+  delta = matmul 21 w 1 k y;
+  kc = matmul 21 w 21 k c;
+  noise = mulTranspose 21 w 21 (matmul 21 w w k noise) k;
+}
 
--- the update: refused where the raw or the inflated covariance has no factor, or the turn of the correction does not fit
-unfoldable pub update : ℕ → EqFilter → List Float → List Float → List Float → Answered
-update w f c y noise =
-    let k = gain w f c y noise in
+-- ---- what no width enters: a correction applied
+
+-- the algebra element of a correction
+unfoldable pub step : Correction → Algebra
+step u = fromArray21 (u .delta)
+
+-- the filter after a correction: the error is measured from the new estimate then, so the covariance is reset to it
+unfoldable pub corrected : EqFilter → Correction → EqFilter
+corrected f u = record {
+  x = compose (exp (step u)) (f .x);
+  sigma = record { «data» = symmetrize 21 (resetSigma (step u) (joseph (f .sigma .«data») (u .kc) (u .noise))) };
+  gravity = f .gravity;
+  alpha = f .alpha;
+}
+
+-- a correction applied, with the normalised innovation squared r for an answer; refused where its turn does not fit
+unfoldable pub applied : EqFilter → Float → Correction → Answered
+applied f r u = cond (turnFits (step u)) (record { answer = Nis r; filter = corrected f u }) (refuse turnRefusal f)
+
+-- ---- the update of w numbers
+
+-- refused where a factor is missing; the answer is from the raw factor, since inflation hides how unexpected the innovation is
+unfoldable pub update : ℕ → EqFilter → List Float → List Float → List Float → Float → Answered
+update w f c y noise alpha =
     cond (definite (rawFactor w f c noise))
-    (cond (definite (inflatedFactor w f c y noise))
-    (cond (turnFits (correction w k y))
-    (record { answer = Nis (nis w (entriesOf (rawFactor w f c noise)) y); filter = updated w f k c y noise })
-    (refuse turnRefusal f))
+    (cond (definite (inflatedFactor w f c y noise alpha))
+    (applied f (nis w (entriesOf (rawFactor w f c noise)) y) (correction w (gain w f c y noise alpha) c y noise))
     (refuse pivotRefusal f))
     (refuse pivotRefusal f)
 
@@ -137,8 +154,8 @@ pub record Measurement : Type 0 where
   pub innovation : List Float
 
 -- the update by a measurement of w numbers
-abbrev pub updateBy : ℕ → EqFilter → Measurement → List Float → Answered
-updateBy w f m noise = update w f (m .output) (m .innovation) noise
+abbrev pub updateBy : ℕ → EqFilter → Measurement → List Float → Float → Answered
+updateBy w f m noise alpha = update w f (m .output) (m .innovation) noise alpha
 
 -- an antenna position, measured
 unfoldable pub measuredPosition : EqFilter → Vec3 → Measurement
@@ -147,8 +164,8 @@ measuredPosition f antenna =
     record { output = positionOutputMatrix antenna transported; innovation = toArray (subVec3 transported antenna) }
 
 -- the update by an antenna position
-abbrev pub updatePosition : EqFilter → Vec3 → List Float → Answered
-updatePosition f antenna noise = updateBy 3 f (measuredPosition f antenna) noise
+abbrev pub updatePosition : EqFilter → Vec3 → List Float → Float → Answered
+updatePosition f antenna noise alpha = updateBy 3 f (measuredPosition f antenna) noise alpha
 
 -- an antenna velocity, measured at the rate that built it
 unfoldable pub measuredVelocity : EqFilter → Vec3 → Vec3 → Measurement
@@ -157,8 +174,8 @@ measuredVelocity f antenna omega =
     record { output = velocityOutputMatrix antenna transported (mulMat3Vec3 (f .x .c .rotation) omega); innovation = toArray (subVec3 transported antenna) }
 
 -- the update by an antenna velocity
-abbrev pub updateVelocity : EqFilter → Vec3 → Vec3 → List Float → Answered
-updateVelocity f antenna omega noise = updateBy 3 f (measuredVelocity f antenna omega) noise
+abbrev pub updateVelocity : EqFilter → Vec3 → Vec3 → List Float → Float → Answered
+updateVelocity f antenna omega noise alpha = updateBy 3 f (measuredVelocity f antenna omega) noise alpha
 
 -- a magnetometer direction, measured of a known north
 unfoldable pub measuredDirection : EqFilter → Vec3 → Vec3 → Measurement
@@ -168,5 +185,5 @@ measuredDirection f measured north =
     record { output = directionOutputMatrix origin transported; innovation = toArray (mulMat3Vec3 (skew origin) transported) }
 
 -- the update by a magnetometer direction
-abbrev pub updateDirection : EqFilter → Vec3 → Vec3 → List Float → Answered
-updateDirection f measured north noise = updateBy 3 f (measuredDirection f measured north) noise
+abbrev pub updateDirection : EqFilter → Vec3 → Vec3 → List Float → Float → Answered
+updateDirection f measured north noise alpha = updateBy 3 f (measuredDirection f measured north) noise alpha

@@ -2,7 +2,7 @@
 // right, the correction of an update on the left. The lines of the covariance are in drifters_covariance.
 ghost use mathlib.Core.Path.{_≡_};
 ghost use Rattle.drifters_core.specs.Vec3.{toArray};
-ghost use Rattle.drifters_eqf.specs.Filter.{turnFits, refuse, new, navState, propagate, update, updatePosition, updateVelocity, updateDirection};
+ghost use Rattle.drifters_eqf.specs.Filter.{turnFits, refuse, new, navState, propagate, applied, update, updatePosition, updateVelocity, updateDirection};
 use crate::gcu::inflate_at;
 use crate::gcu::nis;
 use drifters_cholesky::math::cholesky::Cholesky3;
@@ -91,7 +91,9 @@ impl EqFilter {
         act_state(self.x, State::default())
     }
 
-    // Propagation over dt with one sample of the inertial sensors; dt may be negative.
+    // Propagation over dt with one sample of the inertial sensors; dt may be negative. The lift changes over the step, as gravity turns in
+    // the body frame, so it is taken again at the state half a step on: that makes the step second order in dt. The process noise is
+    // scaled by |dt|: it adds to the covariance also when time runs backwards.
     pub fn propagate(self, u: Input, dt: f64, q: ProcessNoise) -> Answered
         ensures { λ r. ⌜ r ≡ propagate self u dt q ⌝ }
     {
@@ -111,11 +113,11 @@ impl EqFilter {
         let x = self.x.compose(Symmetry::exp(step));
         let phi = transition(state_matrix(half, u, gravity), dt);
         let noise = process_noise(x, estimate, gravity, q);
-        let mut carried = [0.0; 441];
-        congruence(&phi.data, &self.sigma.data, &mut carried);
-        add_scaled21(&mut carried, &noise.data, abs(dt));
-        symmetrize21(&mut carried);
-        let sigma = Mat21 { data: carried };
+        let mut out = [0.0; 441];
+        congruence(&phi.data, &self.sigma.data, &mut out);
+        add_scaled21(&mut out, &noise.data, abs(dt));
+        symmetrize21(&mut out);
+        let sigma = Mat21 { data: out };
         Answered {
             answer: Answer::Fine,
             filter: EqFilter {
@@ -128,41 +130,40 @@ impl EqFilter {
     }
 
     // The update by a measured antenna position.
-    pub fn update_position(self, antenna: Vec3, noise: Mat3) -> Answered
-        ensures { λ r. ⌜ r ≡ updatePosition self antenna (noise .data) ⌝ }
+    pub fn update_position(self, antenna: Vec3, noise: Mat3, alpha: f64) -> Answered
+        ensures { λ r. ⌜ r ≡ updatePosition self antenna (noise .data) alpha ⌝ }
     {
         let transported = transported_position(self.x);
         let c = position_output_matrix(antenna, transported);
-        self.update(c, transported.sub(antenna), noise)
+        self.update(c, transported.sub(antenna), noise, alpha)
     }
 
     // The update by a measured antenna velocity, at the rate that built it.
-    pub fn update_velocity(self, antenna: Vec3, omega: Vec3, noise: Mat3) -> Answered
-        ensures { λ r. ⌜ r ≡ updateVelocity self antenna omega (noise .data) ⌝ }
+    pub fn update_velocity(self, antenna: Vec3, omega: Vec3, noise: Mat3, alpha: f64) -> Answered
+        ensures { λ r. ⌜ r ≡ updateVelocity self antenna omega (noise .data) alpha ⌝ }
     {
         let transported = transported_velocity(self.x, omega);
         let rate = mul_vec3(self.x.a(), omega);
         let c = velocity_output_matrix(antenna, transported, rate);
-        self.update(c, transported.sub(antenna), noise)
+        self.update(c, transported.sub(antenna), noise, alpha)
     }
 
     // The update by a measured direction of the known north.
-    pub fn update_direction(self, measured: Vec3, north: Vec3, noise: Mat3) -> Answered
-        ensures { λ r. ⌜ r ≡ updateDirection self measured north (noise .data) ⌝ }
+    pub fn update_direction(self, measured: Vec3, north: Vec3, noise: Mat3, alpha: f64) -> Answered
+        ensures { λ r. ⌜ r ≡ updateDirection self measured north (noise .data) alpha ⌝ }
     {
         let origin = north.normalized();
         let transported = transported_direction(self.x, measured.normalized());
         let c = direction_output_matrix(origin, transported);
-        self.update(c, mul_vec3(origin.skew(), transported), noise)
+        self.update(c, mul_vec3(origin.skew(), transported), noise, alpha)
     }
 
-    // The update that the others share: gain, correction on the left, Joseph form, reset. The answer is the normalised innovation squared
-    // before inflation.
-    pub fn update(self, c: Mat3x21, innovation: Vec3, noise: Mat3) -> Answered
-        ensures { λ r. ⌜ r ≡ update 3 self (c .data) (toArray innovation) (noise .data) ⌝ }
+    // The update that the others share, as far as the gain; `apply` does the rest. The answer is the normalised innovation squared before
+    // inflation, which hides how unexpected the innovation is. The gain Σ cᵀ S⁻¹ is the transpose of a solve with the Cholesky factor of S,
+    // since S is symmetric: an inverse would cost more and round more.
+    pub fn update(self, c: Mat3x21, innovation: Vec3, noise: Mat3, alpha: f64) -> Answered
+        ensures { λ r. ⌜ r ≡ update 3 self (c .data) (toArray innovation) (noise .data) alpha ⌝ }
     {
-        let gravity = self.gravity;
-        let alpha = self.alpha;
         let y = from_vec3(innovation);
         let mut product = [0.0; 63];
         matmul3x21(&c.data, &self.sigma.data, &mut product);
@@ -179,17 +180,30 @@ impl EqFilter {
         }
         let gain = chol.factor.solve(c_sigma).transpose();
         let delta = gain.matmul_vector(y);
+        let kc = gain.matmul21(c);
+        let share = gain.matmul3(noise).mul_transpose(gain);
         let correction = delta.data;
-        let step = Algebra::from_array(correction);
+        self.apply(r, correction, &kc.data, &share.data)
+    }
+
+    // A correction applied, with r for an answer: composed on the left, then the Joseph form and the reset, since the error is measured from
+    // the new estimate afterwards. No width enters, so that updates of every width share it.
+    fn apply(self, r: f64, delta: [f64; 21], kc: &[f64; 441], noise: &[f64; 441]) -> Answered
+        ensures { λ a. ⌜ a ≡ applied self r (record { delta = delta; kc = now (kc .entry); noise = now (noise .entry) }) ⌝ }
+    {
+        let gravity = self.gravity;
+        let alpha = self.alpha;
+        let step = Algebra::from_array(delta);
         if !turn_fits(step) {
             return refuse(TURN_REFUSAL, self);
         }
-        let x = Symmetry::exp(step).compose(self.x);
-        let corrected = joseph(&self.sigma.data, gain, c, noise);
-        let mut carried = [0.0; 441];
-        reset(step, &corrected.data, &mut carried);
-        symmetrize21(&mut carried);
-        let sigma = Mat21 { data: carried };
+        let change = Symmetry::exp(step);
+        let x = change.compose(self.x);
+        let corrected = joseph(&self.sigma.data, kc, noise);
+        let mut out = [0.0; 441];
+        reset(step, &corrected.data, &mut out);
+        symmetrize21(&mut out);
+        let sigma = Mat21 { data: out };
         Answered {
             answer: Answer::Nis(r),
             filter: EqFilter {

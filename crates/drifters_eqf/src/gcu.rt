@@ -31,10 +31,10 @@ pub fn inflate_at(r: f64, innovation: Vector3, projected: Mat3, noise: Mat3, alp
     ensures { λ s. ⌜ s .data ≡ inflatedBy 3 (beta r) (innovation .data) (projected .data) (noise .data) alpha ⌝ }
 {
     let b = beta(r);
-    let along = innovation.mul_transpose(innovation);
+    let outer = innovation.mul_transpose(innovation);
     projected
         .scaled(b)
-        .add(along.scaled(b * clamp(alpha, 0.0, 1.0)))
+        .add(outer.scaled(b * clamp(alpha, 0.0, 1.0)))
         .add(noise)
 }
 

@@ -15,8 +15,8 @@ returns c =
     let n = l .before in
     let driven = rw (l .lift .ensures, n .input-of .ensures) at (t .to-array .ensures) in
     let difference = rw (driven, n .before .pre .1) at (s .sub .ensures) in
-    let carried = rw (f .from-array .ensures, difference) at (a .adjoint-apply .ensures) in
-    rw carried at (c .to-array2 .ensures)
+    let transformed = rw (f .from-array .ensures, difference) at (a .adjoint-apply .ensures) in
+    rw transformed at (c .to-array2 .ensures)
 
 pub input-column-spec : {M : Type 1} → statement M
 input-column-spec =

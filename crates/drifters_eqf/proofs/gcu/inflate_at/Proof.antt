@@ -13,8 +13,8 @@ returns c =
     let m = p .before in
     let b = m .before .beta .ensures in
     let projected = rw b at (p .scaled .ensures) in
-    let along = rw (m .mul-transpose .ensures, b, k .clamp .ensures) at (s .scaled2 .ensures) in
-    let sum = rw (projected, along) at (a .add .ensures) in
+    let outer = rw (m .mul-transpose .ensures, b, k .clamp .ensures) at (s .scaled2 .ensures) in
+    let sum = rw (projected, outer) at (a .add .ensures) in
     rw sum at (c .add2 .ensures)
 
 pub inflate-at-spec : {M : Type 1} → statement M

@@ -1,0 +1,48 @@
+-- `EqFilter::apply` meets its contract.
+use mathlib.Core.Path.{sym, _∙_}
+use borrow.Author.Tests.{not-true, not-false}
+use Rattle.drifters_eqf.specs.Filter.{step, corrected, applied}
+use Rattle.drifters_eqf.proofs.filter.EqFilter.apply.Statement.{statement}
+use Rattle.drifters_eqf.proofs.filter.EqFilter.apply.Tie as tie
+
+returns : tie.Need-returns
+unfolding applied step
+returns c =
+    let e = c .before in
+    let t = e .before in
+    let turn = rw (t .before .from-array .ensures) at (t .turn-fits .ensures) in
+    rw (sym turn ∙ not-true _ (e .if1 .taken)) (c .refuse .ensures)
+
+returns-2 : tie.Need-returns-2
+unfolding applied corrected step
+returns-2 c =
+    let s = c .before .before in
+    let j = s .before .before .before .before in
+    let x = j .before .before .before in
+    let e = x .before .before .before in
+    let t = e .before in
+    let turn = rw (t .before .from-array .ensures) at (t .turn-fits .ensures) in
+    rw (
+      sym turn ∙ not-false _ (e .if1 .left),
+      c .symmetrize21 .ensures,
+      s .reset .ensures,
+      j .joseph .ensures,
+      x .compose .ensures,
+      x .before .before .exp .ensures,
+      t .before .from-array .ensures,
+    )
+
+pub apply-spec : {M : Type 1} → statement M
+apply-spec =
+    tie.close
+    (tie.spec
+    (λ c κs. tt)
+    (λ c κs. tt)
+    (λ c κs. tt)
+    returns
+    (λ c κs. tt)
+    (λ c κs. tt)
+    (λ c κs. tt)
+    (λ c κs. tt)
+    (λ c κs. tt)
+    returns-2)
