@@ -52,10 +52,22 @@
 /* No function answers it: a sheet that breaks its layout has the text "refused 6". */
 #define DRIFTERS_REFUSED_SHEET 6u
 
+/* Where the parts of a filter begin, as above. A state and a start have theirs at the same places. */
+#define DRIFTERS_STATES 21 /* rows and columns of the covariance */
+#define DRIFTERS_A 0
+#define DRIFTERS_VELOCITY (DRIFTERS_A + 9)
+#define DRIFTERS_POSITION (DRIFTERS_VELOCITY + 3)
+#define DRIFTERS_GAMMA (DRIFTERS_POSITION + 3)
+#define DRIFTERS_DELTA (DRIFTERS_GAMMA + 6)
+#define DRIFTERS_E (DRIFTERS_DELTA + 3)
+#define DRIFTERS_SIGMA (DRIFTERS_E + 9)
+#define DRIFTERS_GRAVITY (DRIFTERS_SIGMA + DRIFTERS_STATES * DRIFTERS_STATES)
+#define DRIFTERS_ALPHA (DRIFTERS_GRAVITY + 3)
+
 /* Lengths of runs. */
-#define DRIFTERS_FILTER_LENGTH 478
-#define DRIFTERS_STATE_LENGTH 33
-#define DRIFTERS_START_LENGTH 477
+#define DRIFTERS_FILTER_LENGTH (DRIFTERS_ALPHA + 1) /* 478 */
+#define DRIFTERS_STATE_LENGTH DRIFTERS_SIGMA        /* 33 */
+#define DRIFTERS_START_LENGTH DRIFTERS_ALPHA        /* 477 */
 #define DRIFTERS_PROPAGATE_LENGTH 25
 #define DRIFTERS_POSITION_LENGTH 12
 #define DRIFTERS_VELOCITY_LENGTH 15

@@ -5,6 +5,10 @@
 
 #include "drifters_eqf.h"
 
+/* Where the innovation of a general update begins: after an output matrix of three rows. */
+#define INNOVATION (3 * DRIFTERS_STATES)
+
+/* The sheet. */
 #define CALLS 3
 #define TABLE_BYTES (4 + 8 * (1 + CALLS))
 #define SHEET_BYTES (TABLE_BYTES + 8 * (DRIFTERS_FILTER_LENGTH + CALLS * DRIFTERS_POSITION_LENGTH))
@@ -46,9 +50,9 @@ static void make_sheet(uint8_t *sheet)
     double call[DRIFTERS_POSITION_LENGTH] = {0};
     uint8_t *at = put(sheet, 1 + CALLS, 4);
 
-    diagonal(filter, 1.0);
-    diagonal(filter + 24, 1.0);
-    filter[477] = 0.5;
+    diagonal(filter + DRIFTERS_A, 1.0);
+    diagonal(filter + DRIFTERS_E, 1.0);
+    filter[DRIFTERS_ALPHA] = 0.5;
     at = put(at, 0, 4);
     at = put(at, TABLE_BYTES, 4);
     for (size_t i = 0; i < CALLS; i++) {
@@ -107,11 +111,11 @@ int main(void)
     uint32_t code;
 
     /* level and at rest, with some doubt in every direction */
-    diagonal(start, 1.0);
-    diagonal(start + 24, 1.0);
-    for (size_t i = 0; i < 21; i++)
-        start[33 + i * 22] = 0.01;
-    start[476] = 9.81;
+    diagonal(start + DRIFTERS_A, 1.0);
+    diagonal(start + DRIFTERS_E, 1.0);
+    for (size_t i = 0; i < DRIFTERS_STATES; i++)
+        start[DRIFTERS_SIGMA + i * (DRIFTERS_STATES + 1)] = 0.01;
+    start[DRIFTERS_GRAVITY + 2] = 9.81;
     print_done("start", drifters_start(filter, DRIFTERS_FILTER_LENGTH, start, DRIFTERS_START_LENGTH));
 
     /* ten milliseconds of a slow turn under thrust */
@@ -135,10 +139,10 @@ int main(void)
 
     /* the position's part of the error, seen directly */
     for (size_t i = 0; i < 3; i++)
-        update[i * 21 + 6 + i] = 1.0;
-    update[63] = 0.125;
-    update[65] = -0.25;
-    diagonal(update + 66, 0.5);
+        update[i * DRIFTERS_STATES + 6 + i] = 1.0;
+    update[INNOVATION] = 0.125;
+    update[INNOVATION + 2] = -0.25;
+    diagonal(update + INNOVATION + 3, 0.5);
     code = drifters_update(filter, DRIFTERS_FILTER_LENGTH, update, DRIFTERS_UPDATE_LENGTH, &nis, DRIFTERS_NIS_LENGTH);
     print_update("update", code, nis);
 

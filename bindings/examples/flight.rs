@@ -1,9 +1,16 @@
 //! A short flight: start, a propagation, each update, a refused update, the estimate, and a call sheet. flight.c is the same in C.
 use drifters_port::{run_sheet, Filter, Refusal};
 use drifters_port::{
-    DIRECTION_LENGTH, FILTER_LENGTH, POSITION_LENGTH, PROPAGATE_LENGTH, START_LENGTH,
-    UPDATE_LENGTH, VELOCITY_LENGTH,
+    ALPHA, DIRECTION_LENGTH, E, FILTER_LENGTH, GRAVITY, POSITION_LENGTH, PROPAGATE_LENGTH, SIGMA,
+    START_LENGTH, STATES, UPDATE_LENGTH, VELOCITY_LENGTH,
 };
+
+/// Where the innovation of a general update begins: after an output matrix of three rows.
+const INNOVATION: usize = 3 * STATES;
+
+/// How many calls the sheet has, and the bytes of its table.
+const CALLS: usize = 3;
+const TABLE_BYTES: usize = 4 + 8 * (1 + CALLS);
 
 /// A 3 by 3 matrix with x on its diagonal, at the front of `to`.
 fn diagonal(to: &mut [f64], x: f64) {
@@ -27,15 +34,18 @@ fn sheet() -> Vec<u8> {
     let mut bytes = Vec::new();
     let mut filter = [0.0; FILTER_LENGTH];
     diagonal(&mut filter, 1.0);
-    diagonal(&mut filter[24..], 1.0);
-    filter[477] = 0.5;
+    diagonal(&mut filter[E..], 1.0);
+    filter[ALPHA] = 0.5;
     let mut call = [0.0; POSITION_LENGTH];
-    put_u32(&mut bytes, 4);
+    put_u32(&mut bytes, 1 + CALLS);
     put_u32(&mut bytes, 0);
-    put_u32(&mut bytes, 36);
-    for i in 0..3 {
+    put_u32(&mut bytes, TABLE_BYTES);
+    for i in 0..CALLS {
         put_u32(&mut bytes, 2);
-        put_u32(&mut bytes, 36 + 8 * (FILTER_LENGTH + i * POSITION_LENGTH));
+        put_u32(
+            &mut bytes,
+            TABLE_BYTES + 8 * (FILTER_LENGTH + i * POSITION_LENGTH),
+        );
     }
     put_numbers(&mut bytes, &filter);
     diagonal(&mut call[3..], 1.0);
@@ -74,11 +84,11 @@ fn main() -> Result<(), Refusal> {
     // level and at rest, with some doubt in every direction
     let mut numbers = [0.0; START_LENGTH];
     diagonal(&mut numbers, 1.0);
-    diagonal(&mut numbers[24..], 1.0);
-    for i in 0..21 {
-        numbers[33 + i * 22] = 0.01;
+    diagonal(&mut numbers[E..], 1.0);
+    for i in 0..STATES {
+        numbers[SIGMA + i * (STATES + 1)] = 0.01;
     }
-    numbers[476] = 9.81;
+    numbers[GRAVITY + 2] = 9.81;
     let mut filter = Filter::start(&numbers)?;
     println!("start ok");
 
@@ -107,10 +117,10 @@ fn main() -> Result<(), Refusal> {
     // the position's part of the error, seen directly
     let mut update = [0.0; UPDATE_LENGTH];
     for i in 0..3 {
-        update[i * 21 + 6 + i] = 1.0;
+        update[i * STATES + 6 + i] = 1.0;
     }
-    update[63..66].copy_from_slice(&[0.125, 0.0, -0.25]);
-    diagonal(&mut update[66..], 0.5);
+    update[INNOVATION..INNOVATION + 3].copy_from_slice(&[0.125, 0.0, -0.25]);
+    diagonal(&mut update[INNOVATION + 3..], 0.5);
     print_update("update", filter.update(&update));
 
     // noise that no matrix with a Cholesky factor has

@@ -6,13 +6,26 @@ mod exported;
 #[cfg(test)]
 mod tests;
 
+/// How many states the covariance has.
+pub const STATES: usize = 21;
+/// Where the parts of a filter begin; A is at 0. A state has its biases, lever arm and calibration at the places of gamma, delta and E; a start
+/// is a filter without alpha.
+pub const VELOCITY: usize = 9;
+pub const POSITION: usize = VELOCITY + 3;
+pub const GAMMA: usize = POSITION + 3;
+pub const DELTA: usize = GAMMA + 6;
+pub const E: usize = DELTA + 3;
+pub const SIGMA: usize = E + 9;
+pub const GRAVITY: usize = SIGMA + STATES * STATES;
+pub const ALPHA: usize = GRAVITY + 3;
+
 /// How many numbers a filter has.
-pub const FILTER_LENGTH: usize = 478;
+pub const FILTER_LENGTH: usize = ALPHA + 1;
 /// How many numbers a state has.
-pub const STATE_LENGTH: usize = 33;
+pub const STATE_LENGTH: usize = SIGMA;
 /// How many numbers a start takes: a state, a covariance, gravity.
-pub const START_LENGTH: usize = 477;
-/// How many numbers each call takes.
+pub const START_LENGTH: usize = ALPHA;
+/// How many numbers each call takes: `Filter`'s methods say which.
 pub const PROPAGATE_LENGTH: usize = 25;
 pub const POSITION_LENGTH: usize = 12;
 pub const VELOCITY_LENGTH: usize = 15;

@@ -6,9 +6,9 @@ const IDENTITY: [f64; 9] = [1.0, 0.0, 0.0, 0.0, 1.0, 0.0, 0.0, 0.0, 1.0];
 /// Document 01's filter: identity A and E, alpha 0.5, all else zero.
 fn whole_case() -> Filter {
     let mut run = [0.0; FILTER_LENGTH];
-    run[..9].copy_from_slice(&IDENTITY);
-    run[24..33].copy_from_slice(&IDENTITY);
-    run[477] = 0.5;
+    run[..VELOCITY].copy_from_slice(&IDENTITY);
+    run[E..SIGMA].copy_from_slice(&IDENTITY);
+    run[ALPHA] = 0.5;
     Filter(run)
 }
 
@@ -149,7 +149,7 @@ fn lengths_are_refused() {
         );
         assert_eq!(f, filter);
     }
-    for n in [477, 479] {
+    for n in [FILTER_LENGTH - 1, FILTER_LENGTH + 1] {
         let mut run = vec![1.0; n];
         assert_eq!(exported::start(&mut run, &all[..START_LENGTH]), 1);
         assert_eq!(exported::propagate(&mut run, &all[..PROPAGATE_LENGTH]), 1);
@@ -202,7 +202,7 @@ fn blanks_are_refused() {
         Err(Refusal::Blank)
     );
     assert_eq!(filter, whole_case());
-    filter.0[477] = f64::INFINITY;
+    filter.0[ALPHA] = f64::INFINITY;
     assert_eq!(filter.nav_state(), Err(Refusal::Blank));
 }
 
@@ -233,11 +233,11 @@ fn a_result_out_of_range_is_refused() {
 #[test]
 fn a_state_comes_back() {
     let mut numbers = [0.0; START_LENGTH];
-    numbers[..9].copy_from_slice(&IDENTITY);
-    numbers[9..15].copy_from_slice(&[1.0, 2.0, 3.0, 4.0, 5.0, 6.0]);
-    numbers[24..33].copy_from_slice(&IDENTITY);
+    numbers[..VELOCITY].copy_from_slice(&IDENTITY);
+    numbers[VELOCITY..GAMMA].copy_from_slice(&[1.0, 2.0, 3.0, 4.0, 5.0, 6.0]);
+    numbers[E..SIGMA].copy_from_slice(&IDENTITY);
     let filter = Filter::start(&numbers).unwrap();
-    assert_eq!(filter.0[477], 0.5);
+    assert_eq!(filter.0[ALPHA], 0.5);
     assert_eq!(filter.nav_state().unwrap(), numbers[..STATE_LENGTH]);
 }
 

@@ -2,7 +2,8 @@
 use drifters_eqf::filter::EqFilter;
 use drifters_eqf::group::State;
 use inputs::{sheet, Flight};
-use original::{filter_of, plain_sheet, Answer, Call, FILTER, STATE};
+use original::places::{FILTER, STATE};
+use original::{filter_of, plain_sheet, Answer, Call};
 use std::hint::black_box;
 
 /// A call to measure; it starts from the same filter each time.

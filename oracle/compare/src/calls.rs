@@ -2,7 +2,8 @@
 use crate::in_threads;
 use crate::lent::{Lent, START};
 use inputs::{log, start, Flight, Manner, Numbers};
-use original::{filter_of, Call, FILTER};
+use original::places::FILTER;
+use original::{filter_of, Call};
 
 /// How many flights, and how many calls each has.
 const FLIGHTS: u64 = 150;

@@ -1,7 +1,9 @@
 //! Document 01's half turn on the compiled port: a log and the log read through a half turn give answers and filters that are each other's.
 use crate::in_threads;
 use crate::lent::Lent;
+use drifters_eqf::linear::DIM;
 use inputs::{log, Manner, Numbers};
+use original::places::{ALPHA, E, GAMMA, GENERAL_NOISE, GRAVITY, INNOVATION, SIGMA, VELOCITY};
 
 const LOGS: u64 = 24_000;
 const LOG_CALLS: usize = 24;
@@ -26,17 +28,17 @@ fn turn_both(s: &Signs, columns: usize, numbers: &mut [f64]) {
 }
 
 fn turn_pose(s: &Signs, numbers: &mut [f64]) {
-    turn_rows(s, 3, &mut numbers[..9]);
-    turn_rows(s, 1, &mut numbers[9..15]);
+    turn_rows(s, 3, &mut numbers[..VELOCITY]);
+    turn_rows(s, 1, &mut numbers[VELOCITY..GAMMA]);
 }
 
 fn turned_filter(s: &Signs, run: &[f64]) -> Vec<f64> {
     let mut run = run.to_vec();
     turn_pose(s, &mut run);
-    turn_rows(s, 1, &mut run[15..24]);
-    turn_rows(s, 3, &mut run[24..33]);
-    turn_both(s, 21, &mut run[33..474]);
-    turn_rows(s, 1, &mut run[474..477]);
+    turn_rows(s, 1, &mut run[GAMMA..E]);
+    turn_rows(s, 3, &mut run[E..SIGMA]);
+    turn_both(s, DIM, &mut run[SIGMA..GRAVITY]);
+    turn_rows(s, 1, &mut run[GRAVITY..ALPHA]);
     run
 }
 
@@ -46,8 +48,8 @@ fn turned_call(s: &Signs, kind: u32, numbers: &[f64]) -> Vec<f64> {
         2 | 3 => turn_rows(s, 1, &mut turned[..3]),
         4 => turn_rows(s, 1, &mut turned[3..6]),
         5 => {
-            turn_both(s, 21, &mut turned[..63]);
-            turn_rows(s, 1, &mut turned[63..66]);
+            turn_both(s, DIM, &mut turned[..INNOVATION]);
+            turn_rows(s, 1, &mut turned[INNOVATION..GENERAL_NOISE]);
         }
         _ => {}
     }

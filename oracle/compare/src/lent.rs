@@ -1,10 +1,11 @@
 //! A call with all its lent runs, made on either side.
-use original::{Answer, STATE};
+use original::places::STATE;
+use original::Answer;
 
 /// The number that stands for a start beside the kinds 1 to 6.
 pub const START: u32 = 7;
 
-/// What is lent to a call: the filter's run, the numbers, and the run of its result (33 of a state, one NIS).
+/// What is lent to a call: the filter's run, the numbers, and the run of its result (a state, or one NIS).
 #[derive(Clone)]
 pub struct Lent {
     pub run: Vec<f64>,

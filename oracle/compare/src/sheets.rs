@@ -1,7 +1,8 @@
 //! Call sheets on the port and on the original: the text byte for byte, and the bytes past it.
 use crate::in_threads;
 use inputs::{log, sheet, Manner, Numbers};
-use original::{call_length, run_sheet, FILTER, REFUSED_SHEET};
+use original::places::FILTER;
+use original::{call_length, run_sheet, REFUSED_SHEET};
 
 const SHEETS: u64 = 6000;
 const SHEET_CALLS: usize = 120;

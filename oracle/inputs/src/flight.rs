@@ -1,6 +1,7 @@
 //! A flight of a swinging camera mount: its true motion, and the calls that its sensors give.
 use crate::Numbers;
 use drifters_core::math::{Mat3, Quat, Vec3};
+use original::places::INNOVATION;
 
 const DT: f64 = 0.01;
 const GRAVITY: Vec3 = Vec3::new(0.0, 0.0, 9.81);
@@ -72,7 +73,7 @@ impl Flight {
         Vec3::from_array(self.numbers.withins(size))
     }
 
-    /// The 477 numbers that a filter starts from: an estimate that is off the truth, with full noise on its diagonal.
+    /// The numbers that a filter starts from: an estimate that is off the truth, with full noise on its diagonal.
     pub fn start(&mut self) -> Vec<f64> {
         let attitude = self.attitude.matmul(&rotation(self.numbers.withins(0.1)));
         let mut start = attitude.data.as_flattened().to_vec();
@@ -124,7 +125,7 @@ impl Flight {
                 [measured.to_array().as_slice(), &NORTH.to_array(), &self.noise(1e-4)].concat()
             }
             5 => {
-                let output: [f64; 63] = self.numbers.withins(0.1);
+                let output: [f64; INNOVATION] = self.numbers.withins(0.1);
                 let innovation: [f64; 3] = self.numbers.withins(0.01);
                 [output.as_slice(), &innovation, &self.noise(0.1)].concat()
             }

@@ -1,6 +1,7 @@
 //! Logs: a filter's run and calls on it, in manners that reach every answer.
 use crate::{beside, Numbers};
 use drifters_core::math::{Mat3, Matrix, Quat, Vec3};
+use original::places::{DELTA, E, GAMMA, GENERAL_NOISE, INNOVATION, POSITION};
 
 /// How a log's numbers are.
 #[derive(Clone, Copy, PartialEq)]
@@ -46,7 +47,7 @@ pub fn log(n: &mut Numbers, manner: Manner, most: usize) -> Log {
     Log { run, calls: (0..calls).map(call).collect() }
 }
 
-/// The 477 numbers of a start.
+/// The numbers of a start.
 pub fn start(n: &mut Numbers, manner: Manner) -> Vec<f64> {
     let mut parts = Parts::new(manner);
     for size in SIZES {
@@ -54,7 +55,7 @@ pub fn start(n: &mut Numbers, manner: Manner) -> Vec<f64> {
     }
     let mut numbers = rotation(n).to_vec();
     numbers.extend(parts.numbers);
-    overflowing(n, manner, &mut numbers[21..24]);
+    overflowing(n, manner, &mut numbers[DELTA..E]);
     numbers.extend(rotation(n));
     numbers.extend(covariance(n, manner));
     numbers.extend([0.0, 0.0, 9.81]);
@@ -62,7 +63,7 @@ pub fn start(n: &mut Numbers, manner: Manner) -> Vec<f64> {
     numbers
 }
 
-/// The 478 numbers of a filter.
+/// The numbers of a filter.
 fn filter(n: &mut Numbers, manner: Manner) -> Vec<f64> {
     let mut parts = Parts::new(manner);
     let straight = manner == Manner::Turning;
@@ -73,7 +74,7 @@ fn filter(n: &mut Numbers, manner: Manner) -> Vec<f64> {
     }
     parts.matrix(n, &e);
     let mut run = parts.numbers;
-    overflowing(n, manner, &mut run[12..15]);
+    overflowing(n, manner, &mut run[POSITION..GAMMA]);
     run.extend(covariance(n, manner));
     run.extend(if n.one_in(2) { [0.0, 0.0, 9.81] } else { n.withins(10.0) });
     run.push(match manner {
@@ -108,13 +109,13 @@ fn call(n: &mut Numbers, manner: Manner, kind: u32) -> Vec<f64> {
                 _ => cancelling(n),
             };
             // So small that only the noise counts.
-            parts.vector(n, 63, 1e-30);
+            parts.vector(n, INNOVATION, 1e-30);
             parts.numbers.extend(innovation);
             parts.numbers.extend(noise.data.as_flattened());
             return parts.numbers;
         }
         5 => {
-            parts.vector(n, 63, 1.0);
+            parts.vector(n, INNOVATION, 1.0);
             let size = n.one_of(&[1.0, 1.0, 30.0]);
             parts.vector(n, 3, size);
         }
@@ -284,9 +285,9 @@ fn least_above(first: f64, pivot: impl Fn(f64) -> f64) -> f64 {
 
 /// An output, an innovation and a noise that give an infinite NIS and a finite filter.
 fn infinite_nis(n: &mut Numbers) -> Vec<f64> {
-    let mut numbers = vec![0.0; 66];
+    let mut numbers = vec![0.0; GENERAL_NOISE];
     numbers[n.below(21)] = 1e-200;
-    numbers[63] = 1e10 * (1.0 + n.unit());
+    numbers[INNOVATION] = 1e10 * (1.0 + n.unit());
     numbers.extend((Mat3::identity() * 1e-300).data.as_flattened());
     numbers
 }

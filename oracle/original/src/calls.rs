@@ -1,5 +1,6 @@
 //! One call on the original's filter: as the original makes it, and with document 01's checks in their order.
-use crate::runs::{all_finite, run_of, state_numbers, Reader, STATE};
+use crate::places::{GENERAL, PROPAGATION, STATE};
+use crate::runs::{all_finite, run_of, state_numbers, Reader};
 use crate::Answer;
 use drifters_core::math::{Cholesky, Mat3, Vec3, Vector};
 use drifters_eqf::filter::{EqFilter, ProcessNoise};
@@ -17,10 +18,10 @@ const MOST_TURN: f64 = 8.0;
 /// How many numbers a call of a kind has.
 pub fn call_length(kind: u32) -> usize {
     match kind {
-        1 => 25,
+        1 => PROPAGATION,
         2 => 12,
         3 | 4 => 15,
-        5 => 75,
+        5 => GENERAL,
         6 => 0,
         _ => panic!("no such kind: {kind}"),
     }

@@ -4,12 +4,15 @@
 //! the turn (3) on the algebra elements that the original hands to `Symmetry::exp`, computed again by its own public functions, and results
 //! that are not finite (5). A refused call is made on a copy, which is dropped.
 mod calls;
+pub mod places;
 mod runs;
 mod sheet;
 
 pub use calls::{call_length, written_length, Call};
-pub use runs::{filter_of, FILTER, STATE};
+pub use runs::filter_of;
 pub use sheet::{plain_sheet, run_sheet, REFUSED_SHEET};
+
+use places::{FILTER, START};
 
 /// What a call answers.
 #[derive(Clone, Copy, Debug)]
@@ -22,7 +25,7 @@ pub enum Answer {
     Refused(u32),
 }
 
-/// A call of a kind, 1 to 6, on a filter's run. `written` has 33 numbers for a state call and none for another.
+/// A call of a kind, 1 to 6, on a filter's run. `written` has the numbers of a state for a state call and none for another.
 pub fn call(kind: u32, run: &mut [f64], numbers: &[f64], written: &mut [f64]) -> Answer {
     if run.len() != FILTER || numbers.len() != call_length(kind) || written.len() != written_length(kind) {
         return Answer::Refused(1);
@@ -35,9 +38,9 @@ pub fn call(kind: u32, run: &mut [f64], numbers: &[f64], written: &mut [f64]) ->
     answer
 }
 
-/// A start: 33 numbers of a state, 441 of a covariance and 3 of gravity fill a filter's run.
+/// A start: the numbers of a state, of a covariance and of gravity fill a filter's run.
 pub fn start(run: &mut [f64], numbers: &[f64]) -> Answer {
-    if run.len() != FILTER || numbers.len() != runs::START {
+    if run.len() != FILTER || numbers.len() != START {
         return Answer::Refused(1);
     }
     if !runs::all_finite(numbers) {

@@ -1,13 +1,9 @@
 //! Runs of numbers as the original's values, and back, at document 01's places.
+use crate::places::{FILTER, STATE};
 use drifters_core::math::{Matrix, Vec3};
 use drifters_eqf::filter::EqFilter;
 use drifters_eqf::group::{State, Symmetry};
 use drifters_eqf::lie::{Se23, Se3Tangent};
-
-/// How many numbers a filter, a start and a state have.
-pub const FILTER: usize = 478;
-pub const START: usize = 477;
-pub const STATE: usize = 33;
 
 /// Reads numbers one after another.
 pub struct Reader<'a>(std::slice::Iter<'a, f64>);
@@ -41,14 +37,14 @@ impl<'a> Reader<'a> {
     }
 }
 
-/// The filter of a run of 478 numbers.
+/// The filter of a run.
 pub fn filter_of(run: &[f64]) -> EqFilter {
     let mut v = Reader::new(run);
     let x = Symmetry { c: v.se23(), gamma: v.se3_tangent(), delta: v.vec3(), e: v.matrix() };
     EqFilter { x, sigma: v.matrix(), gravity: v.vec3(), alpha: v.number() }
 }
 
-/// The filter that the original starts from 477 numbers.
+/// The filter that the original starts from the numbers of a start.
 pub fn started(numbers: &[f64]) -> EqFilter {
     let mut v = Reader::new(numbers);
     let state = State { pose: v.se23(), bias: v.se3_tangent(), lever: v.vec3(), mag: v.matrix() };
@@ -77,7 +73,7 @@ impl<const N: usize> Writer<N> {
     }
 }
 
-/// The 478 numbers of a filter.
+/// The numbers of a filter.
 pub fn run_of(f: &EqFilter) -> [f64; FILTER] {
     let mut w = Writer::new();
     w.se23(&f.x.c).put(&f.x.gamma.to_array()).put(&f.x.delta.to_array()).put(f.x.e.data.as_flattened());
@@ -85,7 +81,7 @@ pub fn run_of(f: &EqFilter) -> [f64; FILTER] {
     w.numbers
 }
 
-/// The 33 numbers of a state.
+/// The numbers of a state.
 pub fn state_numbers(s: &State) -> [f64; STATE] {
     let mut w = Writer::new();
     w.se23(&s.pose).put(&s.bias.to_array()).put(&s.lever.to_array()).put(s.mag.data.as_flattened());

@@ -1,6 +1,7 @@
 //! Call sheets: an independent reader of document 01's layout, and the printer of its answers.
 use crate::calls::{call_length, checked, written_length, Call};
-use crate::runs::{filter_of, FILTER};
+use crate::places::FILTER;
+use crate::runs::filter_of;
 use crate::Answer;
 use drifters_eqf::filter::EqFilter;
 use drifters_eqf::group::State;

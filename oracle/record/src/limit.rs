@@ -1,16 +1,17 @@
 //! Turns of exactly 8, and of the next number above it.
 use crate::list::List;
+use original::places::{DIAGONAL_STEP, DT, E, FILTER, GAMMA, GENERAL, GENERAL_NOISE, GRAVITY, INNOVATION, PROPAGATION, SIGMA, VELOCITY};
 use original::Answer;
 
 type Call = (u32, Vec<f64>);
 
 /// A filter whose A and E are given, with the identity as its covariance, alpha 0, no gravity, and all else zero.
 fn filter(a: [f64; 9], gamma: f64, e: f64) -> Vec<f64> {
-    let mut run = vec![0.0; original::FILTER];
-    run[..9].copy_from_slice(&a);
-    run[15] = gamma;
-    run[24..33].iter_mut().step_by(4).for_each(|x| *x = e);
-    run[33..474].iter_mut().step_by(22).for_each(|x| *x = 1.0);
+    let mut run = vec![0.0; FILTER];
+    run[..VELOCITY].copy_from_slice(&a);
+    run[GAMMA] = gamma;
+    run[E..SIGMA].iter_mut().step_by(4).for_each(|x| *x = e);
+    run[SIGMA..GRAVITY].iter_mut().step_by(DIAGONAL_STEP).for_each(|x| *x = 1.0);
     run
 }
 
@@ -18,20 +19,20 @@ const IDENTITY: [f64; 9] = [1.0, 0.0, 0.0, 0.0, 1.0, 0.0, 0.0, 0.0, 1.0];
 
 /// A propagation over dt.
 fn propagate(omega: [f64; 3], dt: f64) -> Call {
-    let mut numbers = vec![0.0; 25];
+    let mut numbers = vec![0.0; PROPAGATION];
     numbers[..3].copy_from_slice(&omega);
-    numbers[6] = dt;
+    numbers[DT] = dt;
     (1, numbers)
 }
 
 /// A measurement of the three states from `at` on. On a covariance of 1 with noise 2, alpha 0 and an innovation above 2 the gain is a quarter.
 fn measure(at: usize, innovation: f64) -> Call {
-    let mut numbers = vec![0.0; 75];
+    let mut numbers = vec![0.0; GENERAL];
     for i in 0..3 {
-        numbers[22 * i + at] = 1.0;
-        numbers[66 + 4 * i] = 2.0;
+        numbers[DIAGONAL_STEP * i + at] = 1.0;
+        numbers[GENERAL_NOISE + 4 * i] = 2.0;
     }
-    numbers[63] = innovation;
+    numbers[INNOVATION] = innovation;
     (5, numbers)
 }
 

@@ -3,6 +3,7 @@ use drifters_core::math::{Cholesky, Vec3};
 use drifters_eqf::linear::{
     direction_output_matrix, position_output_matrix, transported_direction, transported_position, transported_velocity, velocity_output_matrix,
 };
+use original::places::STATE;
 use original::{Answer, Call};
 
 /// The most calls and bytes of a sheet.
@@ -78,7 +79,7 @@ impl List {
     /// Adds a call, made on the filter that the one before it left.
     pub fn add(&mut self, (kind, numbers): (u32, Vec<f64>)) -> Answer {
         assert!(self.has_room(&numbers), "{}: too many calls", self.name);
-        let mut state = [UNTOUCHED; original::STATE];
+        let mut state = [UNTOUCHED; STATE];
         let inflated = kind != 6 && raw_factor(kind, &self.run, &numbers);
         let answer = original::call(kind, &mut self.run, &numbers, &mut state[..original::written_length(kind)]);
         self.answers.extend(stored(answer, digest(&state), digest(&self.run)));
@@ -91,7 +92,7 @@ impl List {
     /// Adds a call unless it would leave a filter of large numbers, on which little else would be accepted.
     pub fn add_tame(&mut self, call: (u32, Vec<f64>)) {
         let mut run = self.run.clone();
-        let mut state = [0.0; original::STATE];
+        let mut state = [0.0; STATE];
         original::call(call.0, &mut run, &call.1, &mut state[..original::written_length(call.0)]);
         if run == self.run || run.iter().all(|x| x.abs() < MOST_NUMBER) {
             self.add(call);

@@ -1,18 +1,16 @@
 //! The lists of calls, each from a fixed seed.
 use crate::list::List;
 use inputs::{Flight, Numbers};
+use original::places::{ALPHA, DIAGONAL_STEP, DT, E, FILTER, GAMMA, GENERAL, GENERAL_NOISE, GRAVITY, INNOVATION, SIGMA};
 
 type Call = (u32, Vec<f64>);
 
 /// A number out of another.
 type Change = fn(&mut Numbers, f64) -> f64;
 
-/// The place of alpha in a filter's run.
-const ALPHA: usize = 477;
-
 /// The filter of a flight's start.
 fn started(flight: &mut Flight, alpha: f64) -> Vec<f64> {
-    let mut run = vec![0.0; original::FILTER];
+    let mut run = vec![0.0; FILTER];
     original::start(&mut run, &flight.start());
     run[ALPHA] = alpha;
     run
@@ -51,7 +49,7 @@ fn replace(n: &mut Numbers, call: &mut Call, one_in: usize, number: fn(&mut Numb
 
 fn backwards(n: &mut Numbers, call: &mut Call) {
     if call.0 == 1 {
-        call.1[6] = n.one_of(&[-0.01, -0.03, 0.0, -0.0, 0.01]);
+        call.1[DT] = n.one_of(&[-0.01, -0.03, 0.0, -0.0, 0.01]);
     }
 }
 
@@ -110,16 +108,16 @@ fn turn(n: &mut Numbers, call: &mut Call) {
     if call.0 == 1 && n.one_in(4) {
         let norm = call.1[..3].iter().map(|x| x * x).sum::<f64>().sqrt();
         call.1[..3].iter_mut().for_each(|x| *x *= turn / norm);
-        call.1[6] = n.one_of(&[1.0, -1.0, 0.5]);
+        call.1[DT] = n.one_of(&[1.0, -1.0, 0.5]);
     }
     if call.0 == 4 && n.one_in(2) {
         let (at, axis) = (n.one_of(&[0, 18]), n.below(3));
-        *call = (5, vec![0.0; 75]);
+        *call = (5, vec![0.0; GENERAL]);
         for i in 0..3 {
-            call.1[22 * i + at] = 1.0;
-            call.1[66 + 4 * i] = 1e-9;
+            call.1[DIAGONAL_STEP * i + at] = 1.0;
+            call.1[GENERAL_NOISE + 4 * i] = 1e-9;
         }
-        call.1[63 + axis] = 2.0 * turn;
+        call.1[INNOVATION + axis] = 2.0 * turn;
     }
 }
 
@@ -136,8 +134,8 @@ fn point(n: &mut Numbers, call: &mut Call) {
 /// The filter of a start, with the numbers of its state and of its covariance changed.
 fn changed(n: &mut Numbers, alpha: f64, state: Change, sigma: Change) -> Vec<f64> {
     let mut run = started(&mut Flight::new(n.below(1000) as u64), alpha);
-    run[..33].iter_mut().for_each(|x| *x = state(n, *x));
-    run[33..474].iter_mut().for_each(|x| *x = sigma(n, *x));
+    run[..SIGMA].iter_mut().for_each(|x| *x = state(n, *x));
+    run[SIGMA..GRAVITY].iter_mut().for_each(|x| *x = sigma(n, *x));
     run
 }
 
@@ -197,14 +195,14 @@ const UNCHANGED: Scales = Scales { pose: 1.0, gamma: 1.0, e: 1.0, sigma: 1.0, in
 fn huge(name: &'static str, alpha: f64, by: &Scales) -> List {
     let mut flight = Flight::new(61);
     let mut run = started(&mut flight, alpha);
-    run[..15].iter_mut().for_each(|x| *x *= by.pose);
-    run[15..24].iter_mut().enumerate().for_each(|(i, x)| *x = by.gamma * (1.0 + i as f64));
-    run[24..33].iter_mut().for_each(|x| *x *= by.e);
-    run[33..474].iter_mut().for_each(|x| *x *= by.sigma);
+    run[..GAMMA].iter_mut().for_each(|x| *x *= by.pose);
+    run[GAMMA..E].iter_mut().enumerate().for_each(|(i, x)| *x = by.gamma * (1.0 + i as f64));
+    run[E..SIGMA].iter_mut().for_each(|x| *x *= by.e);
+    run[SIGMA..GRAVITY].iter_mut().for_each(|x| *x *= by.sigma);
     let mut list = List::new(name, &run);
     for kind in (1..=6).cycle().take(18) {
         let mut call = (kind, flight.call(kind));
-        let at = if kind == 5 { 63 } else { 0 };
+        let at = if kind == 5 { INNOVATION } else { 0 };
         if [2, 3, 5].contains(&kind) {
             call.1[at..at + 3].iter_mut().for_each(|x| *x *= by.innovation);
         }

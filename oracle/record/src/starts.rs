@@ -1,6 +1,7 @@
 //! Starts with the original's answers: ordinary ones, with zeros and any magnitude, with large numbers, and with numbers that are not finite.
 use crate::list::{digest, stored, UNTOUCHED};
 use inputs::{Flight, Numbers};
+use original::places::{E, FILTER, GAMMA};
 use original::Answer;
 
 const STARTS: usize = 24;
@@ -9,7 +10,7 @@ const STARTS: usize = 24;
 fn numbers(i: usize) -> Vec<f64> {
     let mut n = Numbers::new(100 + i as u64);
     let mut start = Flight::new(100 + i as u64).start();
-    start[15..24].iter_mut().for_each(|x| *x = n.within(1.0));
+    start[GAMMA..E].iter_mut().for_each(|x| *x = n.within(1.0));
     let most = n.one_of(&[1e100, 1e160, 1e300]);
     for x in &mut start {
         match i % 4 {
@@ -28,7 +29,7 @@ pub fn all() -> Vec<u8> {
     let (mut bytes, mut codes) = (Vec::new(), [0; 3]);
     for i in 0..STARTS {
         let numbers = numbers(i);
-        let mut run = [UNTOUCHED; original::FILTER];
+        let mut run = [UNTOUCHED; FILTER];
         let answer = original::start(&mut run, &numbers);
         codes[match answer {
             Answer::Refused(2) => 1,
