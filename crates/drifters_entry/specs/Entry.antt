@@ -10,6 +10,7 @@ use Rattle.drifters_eqf.specs.Answer.{lengthRefusal, blankRefusal, rangeRefusal
 use Rattle.drifters_lie.specs.Lie.{vec3At}
 use Rattle.drifters_covariance.specs.Covariance.{inputAt}
 use Rattle.drifters_eqf.specs.Filter.{new, navState, propagate, Measurement, updateBy, measuredPosition, measuredVelocity, measuredDirection}
+pub use Rattle.drifters_entry.specs.Kind.{kindNumber, callLength, writtenLength}
 use Rattle.drifters_entry.specs.Layout.{filterLength, stateLength, part, fromRun, toRun, stateFromRun, stateToRun}
 use Rattle.drifters_symmetry.specs.declared.lift.Input.{Input}
 use Rattle.drifters_covariance.specs.declared.covariance.ProcessNoise.{ProcessNoise}
@@ -19,33 +20,6 @@ use Rattle.drifters_eqf.specs.declared.filter.Answer.the-variants.{Nis, Fine, R
 use Rattle.drifters_eqf.specs.declared.filter.Answered.{Answered}
 use Rattle.drifters_entry.specs.declared.kind.Kind.{Kind}
 use Rattle.drifters_entry.specs.declared.kind.Kind.the-variants.{Propagate, Position, Velocity, Direction, General, State}
-
--- the number of a kind
-abbrev pub kindNumber : Kind → ℕ
-kindNumber Propagate = 1
-kindNumber Position = 2
-kindNumber Velocity = 3
-kindNumber Direction = 4
-kindNumber General = 5
-kindNumber State = 6
-
--- how many numbers a call of a kind has
-abbrev pub callLength : Kind → ℕ
-callLength Propagate = 25
-callLength Position = 12
-callLength Velocity = 15
-callLength Direction = 15
-callLength General = 75
-callLength State = 0
-
--- how many numbers a call of a kind writes beside the filter
-abbrev pub writtenLength : Kind → ℕ
-writtenLength Propagate = 0
-writtenLength Position = 0
-writtenLength Velocity = 0
-writtenLength Direction = 0
-writtenLength General = 0
-writtenLength State = stateLength
 
 -- how many numbers a start takes: a state, a covariance, gravity
 abbrev pub startLength : ℕ

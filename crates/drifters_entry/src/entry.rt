@@ -4,9 +4,11 @@ ghost use mathlib.Core.List.{[]};
 ghost use Prim.Native.Nat.{_+_, _≤_};
 ghost use lib.ListN.{length};
 ghost use Rattle.drifters_entry.specs.Layout.{filterLength, part};
-ghost use Rattle.drifters_entry.specs.Entry.{callLength, writtenLength, processNoiseAt, outcome, outcomeOf, settled, firstRefusal, call, start};
+ghost use Rattle.drifters_entry.specs.Entry.{processNoiseAt, outcome, outcomeOf, settled, firstRefusal, call, start};
 ghost use Rattle.drifters_entry.specs.declared.kind.Kind.the-variants.{Propagate, Position, Velocity, Direction, General, State};
 use crate::kind::Kind;
+use crate::kind::call_length;
+use crate::kind::written_length;
 use crate::layout::copy_part;
 use crate::layout::filter_is_finite;
 use crate::layout::from_run;
@@ -38,35 +40,7 @@ pub const FILTER_LENGTH: usize = 478;
 pub const STATE_LENGTH: usize = 33;
 
 // How many numbers a start takes: a state, a covariance, gravity.
-const START_LENGTH: usize = 477;
-
-// How many numbers a call of a kind has.
-pub fn call_length(kind: Kind) -> usize
-    ensures { λ r. ⌜ r ≡ callLength kind ⌝ }
-{
-    match kind {
-        Kind::Propagate => 25,
-        Kind::Position => 12,
-        Kind::Velocity => 15,
-        Kind::Direction => 15,
-        Kind::General => 75,
-        Kind::State => 0,
-    }
-}
-
-// How many numbers a call of a kind writes beside the filter.
-pub fn written_length(kind: Kind) -> usize
-    ensures { λ r. ⌜ r ≡ writtenLength kind ⌝ }
-{
-    match kind {
-        Kind::Propagate => 0,
-        Kind::Position => 0,
-        Kind::Velocity => 0,
-        Kind::Direction => 0,
-        Kind::General => 0,
-        Kind::State => STATE_LENGTH,
-    }
-}
+pub const START_LENGTH: usize = 477;
 
 // A call of any kind; `written` is the run that a state call writes, and empty for the others.
 pub fn call(kind: Kind, run: &mut [f64], numbers: &[f64], written: &mut [f64]) -> Answer
