@@ -12,7 +12,8 @@ use Rattle.drifters_real.specs.Real.{isFinite}
 use Rattle.drifters_matrix.specs.Matrix.{allFinite}
 use Rattle.drifters_eqf.specs.Answer.{lengthRefusal, blankRefusal, rangeRefusal}
 use Rattle.drifters_entry.specs.Layout.{filterLength, fromRun, toRun}
-use Rattle.drifters_entry.specs.Entry.{callLength, writtenLength, requestOf, Outcome, outcome, outcomeOf, performed, refused, rangeCheckedAs, rangeChecked, lengthsFit, firstRefusal, call}
+use Rattle.drifters_entry.specs.Kind.{callLength, writtenLength}
+use Rattle.drifters_entry.specs.Entry.{requestOf, Outcome, outcome, outcomeOf, performed, refused, rangeCheckedAs, rangeChecked, lengthsFit, firstRefusal, call}
 use Rattle.drifters_eqf.specs.declared.filter.EqFilter.{EqFilter}
 use Rattle.drifters_eqf.specs.declared.filter.Answer.{Answer}
 use Rattle.drifters_eqf.specs.declared.filter.Answer.the-variants.{Nis, Fine, Refused}

@@ -2,3 +2,4 @@
 pub mod RoundTrips
 pub mod Parts
 pub mod Calls
+pub mod KindLaws

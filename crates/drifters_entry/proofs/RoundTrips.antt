@@ -13,7 +13,7 @@ use Rattle.drifters_core.specs.Vec3.{toArray}
 use Rattle.drifters_matrix.specs.declared.math.shapes.Mat3.{Mat3}
 use Rattle.drifters_matrix.proofs.Matrix.Tab.{tab-is}
 use Rattle.drifters_lie.specs.Lie.{mat3Of, toArraySe3, vec3At, se3TangentAt}
-use Rattle.drifters_entry.specs.Layout.{filterLength, stateLength, sigmaPlace, gravityPlace, part, fromRun, toRun, stateFromRun, stateToRun, SizedFilter, SizedState, RoundTrips}
+use Rattle.drifters_entry.specs.Layout.{velocityPlace, positionPlace, gammaPlace, deltaPlace, ePlace, sigmaPlace, gravityPlace, alphaPlace, filterLength, stateLength, part, fromRun, toRun, stateFromRun, stateToRun, SizedFilter, SizedState, RoundTrips}
 use Rattle.drifters_symmetry.specs.declared.group.Symmetry.{Symmetry}
 use Rattle.drifters_symmetry.specs.declared.group.State.{State}
 use Rattle.drifters_eqf.specs.declared.filter.EqFilter.{EqFilter}
@@ -53,7 +53,7 @@ length-part v i n h = simp (length-take, length-drop) (omega arith)
 
 pub sized-fromRun : (run : List Float) → length run ≡ filterLength → SizedFilter (fromRun run)
 unfolding fromRun
-sized-fromRun run h = record { rotation = length-part run 0 9 (omega arith); e = length-part run 24 9 (omega arith); sigma = length-part run 33 441 (omega arith) }
+sized-fromRun run h = record { rotation = length-part run 0 9 (omega arith); e = length-part run ePlace 9 (omega arith); sigma = length-part run sigmaPlace 441 (omega arith) }
 
 -- ---- a part of a run
 
@@ -80,8 +80,8 @@ part-se3 v i h = (λ k. part-vec3 v i (omega arith) k ++ part-vec3 v (i + 3) (om
 stateRun-front : (run : List Float) → stateLength ≤ length run → stateToRun (stateFromRun run) ≡ take stateLength run
 unfolding stateToRun stateFromRun
 stateRun-front run h =
-    rw (part-vec3 run 9 (omega arith), part-vec3 run 12 (omega arith), part-se3 run 15 (omega arith), part-vec3 run 21 (omega arith))
-    (rw (part-add run 0 9 3, part-add run 0 12 3, part-add run 0 15 6, part-add run 0 21 3, part-add run 0 24 9))
+    rw (part-vec3 run velocityPlace (omega arith), part-vec3 run positionPlace (omega arith), part-se3 run gammaPlace (omega arith), part-vec3 run deltaPlace (omega arith))
+    (rw (part-add run 0 velocityPlace 3, part-add run 0 positionPlace 3, part-add run 0 gammaPlace 6, part-add run 0 deltaPlace 3, part-add run 0 ePlace 9))
 
 stateRun : (run : List Float) → length run ≡ stateLength → stateToRun (stateFromRun run) ≡ run
 stateRun run h = stateRun-front run (omega arith) ∙ take-all stateLength run (omega arith)
@@ -89,8 +89,8 @@ stateRun run h = stateRun-front run (omega arith) ∙ take-all stateLength run (
 filterRun : (run : List Float) → length run ≡ filterLength → toRun (fromRun run) ≡ run
 unfolding toRun fromRun stateToRun stateFromRun
 filterRun run h =
-    rw (stateRun-front run (omega arith), part-vec3 run 474 (omega arith), ← part-one run 477 (omega arith))
-    (rw (part-add run 0 33 441, part-add run 0 474 3, part-add run 0 477 1) (take-all filterLength run (omega arith)))
+    rw (stateRun-front run (omega arith), part-vec3 run gravityPlace (omega arith), ← part-one run alphaPlace (omega arith))
+    (rw (part-add run 0 sigmaPlace 441, part-add run 0 gravityPlace 3, part-add run 0 alphaPlace 1) (take-all filterLength run (omega arith)))
 
 -- ---- from a record and back
 

@@ -10,7 +10,8 @@ use Rattle.drifters_eqf.specs.Answer.{lengthRefusal, blankRefusal, rangeRefusal
 use Rattle.drifters_lie.specs.Lie.{vec3At}
 use Rattle.drifters_covariance.specs.Covariance.{inputAt}
 use Rattle.drifters_eqf.specs.Filter.{new, navState, propagate, Measurement, updateBy, measuredPosition, measuredVelocity, measuredDirection}
-use Rattle.drifters_entry.specs.Layout.{filterLength, stateLength, part, fromRun, toRun, stateFromRun, stateToRun}
+pub use Rattle.drifters_entry.specs.Kind.{kindNumber, callLength, writtenLength}
+use Rattle.drifters_entry.specs.Layout.{sigmaPlace, gravityPlace, filterLength, startLength, part, fromRun, toRun, stateFromRun, stateToRun}
 use Rattle.drifters_symmetry.specs.declared.lift.Input.{Input}
 use Rattle.drifters_covariance.specs.declared.covariance.ProcessNoise.{ProcessNoise}
 use Rattle.drifters_eqf.specs.declared.filter.EqFilter.{EqFilter}
@@ -20,43 +21,12 @@ use Rattle.drifters_eqf.specs.declared.filter.Answered.{Answered}
 use Rattle.drifters_entry.specs.declared.kind.Kind.{Kind}
 use Rattle.drifters_entry.specs.declared.kind.Kind.the-variants.{Propagate, Position, Velocity, Direction, General, State}
 
--- the number of a kind
-abbrev pub kindNumber : Kind → ℕ
-kindNumber Propagate = 1
-kindNumber Position = 2
-kindNumber Velocity = 3
-kindNumber Direction = 4
-kindNumber General = 5
-kindNumber State = 6
-
--- how many numbers a call of a kind has
-abbrev pub callLength : Kind → ℕ
-callLength Propagate = 25
-callLength Position = 12
-callLength Velocity = 15
-callLength Direction = 15
-callLength General = 75
-callLength State = 0
-
--- how many numbers a call of a kind writes beside the filter
-abbrev pub writtenLength : Kind → ℕ
-writtenLength Propagate = 0
-writtenLength Position = 0
-writtenLength Velocity = 0
-writtenLength Direction = 0
-writtenLength General = 0
-writtenLength State = stateLength
-
--- how many numbers a start takes: a state, a covariance, gravity
-abbrev pub startLength : ℕ
-startLength = 477
-
--- what a call asks of the filter: to propagate, to be updated by a measurement of w numbers with its noise, or its estimate; `refusal` is for a
--- kind with a check of its own, which stands between blank and pivot
+-- what a call asks of the filter: to propagate, to be updated by a measurement of w numbers with its noise and the share of inflation
+-- along the innovation, or its estimate; `refusal` is for a kind with a check of its own, which stands between blank and pivot
 pub data Request : Type 0 where
   refusal : ℕ → Request
   propagation : Input → Float → ProcessNoise → Request
-  measurement : ℕ → Measurement → List Float → Request
+  measurement : ℕ → Measurement → List Float → Float → Request
   estimate : Request
 
 -- eighteen densities from place i on
@@ -73,10 +43,10 @@ processNoiseAt v i = record {
 -- what the numbers v of a call ask of the filter f
 abbrev pub requestOf : Kind → EqFilter → List Float → Request
 requestOf Propagate f v = propagation (inputAt v 0) (getD v 6 nan) (processNoiseAt v 7)
-requestOf Position f v = measurement 3 (measuredPosition f (vec3At v 0)) (part v 3 9)
-requestOf Velocity f v = measurement 3 (measuredVelocity f (vec3At v 0) (vec3At v 3)) (part v 6 9)
-requestOf Direction f v = measurement 3 (measuredDirection f (vec3At v 0) (vec3At v 3)) (part v 6 9)
-requestOf General f v = measurement 3 (record { output = part v 0 63; innovation = part v 63 3 }) (part v 66 9)
+requestOf Position f v = measurement 3 (measuredPosition f (vec3At v 0)) (part v 3 9) (f .alpha)
+requestOf Velocity f v = measurement 3 (measuredVelocity f (vec3At v 0) (vec3At v 3)) (part v 6 9) (f .alpha)
+requestOf Direction f v = measurement 3 (measuredDirection f (vec3At v 0) (vec3At v 3)) (part v 6 9) (f .alpha)
+requestOf General f v = measurement 3 (record { output = part v 0 63; innovation = part v 63 3 }) (part v 66 9) (f .alpha)
 requestOf State f v = estimate
 
 -- an answer, the filter's run, and the run that a state call writes, as they are after a call
@@ -101,7 +71,7 @@ refused n run written = record { answer = Refused n; run = run; written = writte
 unfoldable pub performed : Request → EqFilter → List Float → List Float → Outcome
 performed (refusal n) f run written = refused n run written
 performed (propagation u dt q) f run written = outcomeOf (propagate f u dt q) written
-performed (measurement w m noise) f run written = outcomeOf (updateBy w f m noise) written
+performed (measurement w m noise alpha) f run written = outcomeOf (updateBy w f m noise alpha) written
 performed estimate f run written = record { answer = Fine; run = run; written = stateToRun (navState f) }
 
 -- the values of an answer and the filter left are finite
@@ -139,9 +109,9 @@ call kind run v written =
     (refused blankRefusal run written))
     (refused lengthRefusal run written)
 
--- a filter's run from the 477 numbers of a start
+-- a filter's run from the numbers of a start
 unfoldable pub started : List Float → List Float
-started v = toRun (new (stateFromRun v) (part v stateLength 441) (vec3At v (stateLength + 441)))
+started v = toRun (new (stateFromRun v) (part v sigmaPlace 441) (vec3At v gravityPlace))
 
 -- a start with the numbers v; what the filter's run held before does not matter
 unfoldable pub start : List Float → List Float → Outcome

@@ -1,5 +1,5 @@
--- The filter as a run of 478 numbers and the state as one of 33, both ways, with the round trips. Definitions and statements only.
-use Prim.Native.Nat.{ℕ}
+-- The filter and the state as runs of numbers, both ways, with the round trips. Definitions and statements only.
+use Prim.Native.Nat.{ℕ, _+_}
 use mathlib.Core.Path.{_≡_}
 use mathlib.Core.List.{List, [], _∷_, _++_}
 use lib.ListN.{length, getD, take, drop}
@@ -11,49 +11,61 @@ use Rattle.drifters_lie.specs.declared.lie.Se23.{Se23}
 use Rattle.drifters_symmetry.specs.declared.group.State.{State}
 use Rattle.drifters_eqf.specs.declared.filter.EqFilter.{EqFilter}
 
--- how many numbers a filter has
-abbrev pub filterLength : ℕ
-filterLength = 478
+-- where the velocity of C begins, after its rotation
+abbrev pub velocityPlace : ℕ
+velocityPlace = 9
 
--- how many numbers a state has
-abbrev pub stateLength : ℕ
-stateLength = 33
+-- where the position of C begins
+abbrev pub positionPlace : ℕ
+positionPlace = velocityPlace + 3
 
--- where gamma begins, after the rotation, the velocity and the position of C
+-- where gamma begins
 abbrev pub gammaPlace : ℕ
-gammaPlace = 15
+gammaPlace = positionPlace + 3
 
 -- where delta begins
 abbrev pub deltaPlace : ℕ
-deltaPlace = 21
+deltaPlace = gammaPlace + 6
 
 -- where E begins
 abbrev pub ePlace : ℕ
-ePlace = 24
+ePlace = deltaPlace + 3
 
 -- where the covariance begins
 abbrev pub sigmaPlace : ℕ
-sigmaPlace = 33
+sigmaPlace = ePlace + 9
 
 -- where gravity begins
 abbrev pub gravityPlace : ℕ
-gravityPlace = 474
+gravityPlace = sigmaPlace + 441
 
 -- where alpha stands
 abbrev pub alphaPlace : ℕ
-alphaPlace = 477
+alphaPlace = gravityPlace + 3
+
+-- how many numbers a filter has
+abbrev pub filterLength : ℕ
+filterLength = alphaPlace + 1
 
 -- where the biases begin in a state, after its pose
 abbrev pub biasPlace : ℕ
-biasPlace = 15
+biasPlace = positionPlace + 3
 
 -- where the lever arm begins
 abbrev pub leverPlace : ℕ
-leverPlace = 21
+leverPlace = biasPlace + 6
 
 -- where the magnetometer calibration begins
 abbrev pub magPlace : ℕ
-magPlace = 24
+magPlace = leverPlace + 3
+
+-- how many numbers a state has
+abbrev pub stateLength : ℕ
+stateLength = magPlace + 9
+
+-- how many numbers a start takes: a state, a covariance, gravity
+abbrev pub startLength : ℕ
+startLength = stateLength + 441 + 3
 
 -- n numbers from place i on
 abbrev pub part : List Float → ℕ → ℕ → List Float
@@ -65,7 +77,7 @@ mat3At v i = mat3Of (part v i 9)
 
 -- an extended pose from its fifteen numbers, the first of the run
 abbrev pub poseOf : List Float → Se23
-poseOf v = record { rotation = mat3At v 0; velocity = vec3At v 9; position = vec3At v 12 }
+poseOf v = record { rotation = mat3At v 0; velocity = vec3At v velocityPlace; position = vec3At v positionPlace }
 
 -- and back
 abbrev pub poseNumbers : Se23 → List Float

@@ -7,9 +7,15 @@ ghost use lib.ListN.{length};
 ghost use lib.Ieee.{Float};
 ghost use Rattle.drifters_matrix.specs.Matrix.{allFinite};
 ghost use Rattle.drifters_entry.specs.Layout.{filterLength, stateLength, part, fromRun};
-ghost use Rattle.drifters_entry.specs.Entry.{callLength, writtenLength, estimate, processNoiseAt, requestOf, outcome, outcomeOf, performed, rangeChecked, firstRefusal, call, start};
+ghost use Rattle.drifters_entry.specs.Kind.{callLength};
+ghost use Rattle.drifters_entry.specs.Entry.{estimate, processNoiseAt, requestOf, outcome, outcomeOf, performed, rangeChecked, firstRefusal, call, start};
 ghost use Rattle.drifters_entry.specs.declared.kind.Kind.the-variants.{Propagate, Position, Velocity, Direction, General, State};
 use crate::kind::Kind;
+use crate::kind::call_length;
+use crate::kind::written_length;
+use crate::layout::ALPHA;
+use crate::layout::GRAVITY;
+use crate::layout::SIGMA;
 use crate::layout::copy_part;
 use crate::layout::filter_is_finite;
 use crate::layout::from_run;
@@ -35,41 +41,13 @@ use drifters_symmetry::group::act_state;
 use drifters_symmetry::lift::Input;
 
 // How many numbers a filter has.
-pub const FILTER_LENGTH: usize = 478;
+pub const FILTER_LENGTH: usize = ALPHA + 1;
 
-// How many numbers a state has.
-pub const STATE_LENGTH: usize = 33;
+// How many numbers a state has: those before the covariance.
+pub const STATE_LENGTH: usize = SIGMA;
 
 // How many numbers a start takes: a state, a covariance, gravity.
-const START_LENGTH: usize = 477;
-
-// How many numbers a call of a kind has.
-pub fn call_length(kind: Kind) -> usize
-    ensures { λ r. ⌜ r ≡ callLength kind ⌝ }
-{
-    match kind {
-        Kind::Propagate => 25,
-        Kind::Position => 12,
-        Kind::Velocity => 15,
-        Kind::Direction => 15,
-        Kind::General => 75,
-        Kind::State => 0,
-    }
-}
-
-// How many numbers a call of a kind writes beside the filter.
-pub fn written_length(kind: Kind) -> usize
-    ensures { λ r. ⌜ r ≡ writtenLength kind ⌝ }
-{
-    match kind {
-        Kind::Propagate => 0,
-        Kind::Position => 0,
-        Kind::Velocity => 0,
-        Kind::Direction => 0,
-        Kind::General => 0,
-        Kind::State => STATE_LENGTH,
-    }
-}
+pub const START_LENGTH: usize = ALPHA;
 
 // A call of a kind: its checks, what it asks of the filter, and the results written back. `written` is the run that a state call writes, and
 // empty for the others. A refusal changes no lent number.
@@ -148,8 +126,8 @@ pub fn start(run: &mut [f64], numbers: &[f64]) -> Answer
         return Answer::Refused(BLANK_REFUSAL);
     }
     let initial = state_from_run(numbers);
-    let sigma = mat21_at(numbers, STATE_LENGTH);
-    let gravity = vec3_at(numbers, STATE_LENGTH + 441);
+    let sigma = mat21_at(numbers, SIGMA);
+    let gravity = vec3_at(numbers, GRAVITY);
     let filter = EqFilter::new(initial, sigma, gravity);
     write_filter(
         Answered {
@@ -202,7 +180,7 @@ fn position_by(filter: EqFilter, numbers: &[f64]) -> Answered
     requires { ⌜ length (now numbers) ≡ callLength Position ⌝ }
     ensures { λ r. ⌜ ((run : List Float) → outcomeOf r [] ≡ performed (requestOf Position filter (now (numbers .entry))) filter run []) ⌝ }
 {
-    filter.update_position(vec3_at(numbers, 0), mat3_at(numbers, 3))
+    filter.update_position(vec3_at(numbers, 0), mat3_at(numbers, 3), filter.alpha)
 }
 
 // The update by an antenna velocity that a call's numbers ask for.
@@ -214,6 +192,7 @@ fn velocity_by(filter: EqFilter, numbers: &[f64]) -> Answered
         vec3_at(numbers, 0),
         vec3_at(numbers, 3),
         mat3_at(numbers, 6),
+        filter.alpha,
     )
 }
 
@@ -226,6 +205,7 @@ fn direction_by(filter: EqFilter, numbers: &[f64]) -> Answered
         vec3_at(numbers, 0),
         vec3_at(numbers, 3),
         mat3_at(numbers, 6),
+        filter.alpha,
     )
 }
 
@@ -238,6 +218,7 @@ fn general_by(filter: EqFilter, numbers: &[f64]) -> Answered
         output_matrix(numbers),
         vec3_at(numbers, 63),
         mat3_at(numbers, 66),
+        filter.alpha,
     )
 }
 

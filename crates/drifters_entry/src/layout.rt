@@ -1,4 +1,4 @@
-// The filter as a run of 478 numbers and the state as one of 33, both ways.
+// The filter and the state as runs of numbers, both ways.
 ghost use mathlib.Core.Path.{_≡_};
 ghost use mathlib.Core.List.{_++_};
 ghost use Prim.Native.Nat.{_+_, _≤_};
@@ -19,22 +19,23 @@ use drifters_real::math::real::is_finite;
 use drifters_symmetry::group::State;
 use drifters_symmetry::group::Symmetry;
 
-// Where the parts of a filter's run begin. A state has its biases, lever arm and calibration at the places of gamma, delta and E.
+// Where the parts of a filter's run begin: C, as rotation, velocity and position; gamma, delta, E; the covariance, gravity, alpha. A state has
+// its biases, lever arm and calibration at the places of gamma, delta and E.
 const VELOCITY: usize = 9;
 
-const POSITION: usize = 12;
+const POSITION: usize = VELOCITY + 3;
 
-const GAMMA: usize = 15;
+const GAMMA: usize = POSITION + 3;
 
-const DELTA: usize = 21;
+const DELTA: usize = GAMMA + 6;
 
-const E: usize = 24;
+const E: usize = DELTA + 3;
 
-const SIGMA: usize = 33;
+pub(crate) const SIGMA: usize = E + 9;
 
-const GRAVITY: usize = 474;
+pub(crate) const GRAVITY: usize = SIGMA + 441;
 
-const ALPHA: usize = 477;
+pub(crate) const ALPHA: usize = GRAVITY + 3;
 
 // The numbers of `run` from `at` on, into `out`.
 pub(crate) fn copy_part(run: &[f64], at: usize, out: &mut [f64])
@@ -195,7 +196,7 @@ fn state_numbers(c: Se23, w: Se3Tangent, v: Vec3, m: Mat3) -> [f64; 33]
     ]
 }
 
-// A filter into its run; places 33 to 473 are lent on for the covariance.
+// A filter into its run; the places of the covariance are lent on.
 pub(crate) fn to_run(x: Symmetry, sigma: &[f64; 441], gravity: Vec3, alpha: f64, run: &mut [f64])
     requires { ⌜ length (now run) ≡ filterLength ⌝ }
     ensures { λ _. ⌜ now (run .exit) ≡ toRun (filterOf x (now (sigma .entry)) gravity alpha) ⌝ }

@@ -1,7 +1,7 @@
 -- `entry::call` meets its contract.
 use mathlib.Core.Path.{_≡_, refl, ap, _∙_}
 use borrow.Author.Needs.{needs}
-use Rattle.drifters_entry.specs.Entry.{callLength, writtenLength}
+use Rattle.drifters_entry.specs.Kind.{callLength, writtenLength}
 use Rattle.drifters_entry.specs.declared.kind.Kind.the-variants.{Propagate, Position, Velocity, Direction, General, State}
 use Rattle.drifters_entry.proofs.Calls.{Passed, passed, call-refused, call-passed, call-made}
 use Rattle.drifters_entry.proofs.entry.call.Statement.{statement}

@@ -8,8 +8,8 @@ use borrow.Author.Tests.{eqb-true, not-true, not-false}
 use lib.Dec.{eqb}
 use lib.ListN.{length}
 use lib.Ieee.{Float}
-use Rattle.drifters_entry.specs.Layout.{filterLength}
-use Rattle.drifters_entry.specs.Entry.{startLength, started, start}
+use Rattle.drifters_entry.specs.Layout.{filterLength, startLength}
+use Rattle.drifters_entry.specs.Entry.{started, start}
 use Rattle.drifters_entry.proofs.entry.start.Statement.{statement}
 use Rattle.drifters_entry.proofs.entry.start.Tie as tie
 
@@ -66,7 +66,6 @@ start-spec =
     returns-2
     (λ c κs. omega (arith, lengths (c .before .before)))
     (λ c κs. omega (arith, lengths (c .before .before .before)))
-    (λ c. search needs)
     (λ c κs. omega (arith, lengths (c .before .before .before .before)))
     (λ c κs. tt)
     (λ c κs. lengths (c .before .before .before .before .before .before .before) .0)

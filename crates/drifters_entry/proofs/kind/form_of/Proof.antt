@@ -1,0 +1,23 @@
+-- `kind::form_of` meets its contract.
+use mathlib.Core.Path.{_≡_, sym, ap}
+use borrow.Author.Needs.{needs}
+use Rattle.drifters_entry.specs.Kind.{formOf}
+use Rattle.drifters_entry.proofs.kind.form_of.Statement.{statement}
+use Rattle.drifters_entry.proofs.kind.form_of.Tie as tie
+
+pub form-of-spec : {M : Type 1} → statement M
+form-of-spec =
+    tie.close
+    (tie.spec
+    (λ c. search needs)
+    (λ c. search needs)
+    (λ c. search needs)
+    (λ c. search needs)
+    (λ c. search needs)
+    (λ c. search needs)
+    (λ c. sym (ap formOf (c .enum-told .given .1)))
+    (λ c. sym (ap formOf (c .enum-told2 .given .1)))
+    (λ c. sym (ap formOf (c .enum-told3 .given .1)))
+    (λ c. sym (ap formOf (c .enum-told4 .given .1)))
+    (λ c. sym (ap formOf (c .enum-told5 .given .1)))
+    (λ c. sym (ap formOf (c .enum-told6 .given .1))))
