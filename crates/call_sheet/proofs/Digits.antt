@@ -4,15 +4,16 @@ use mathlib.Core.Path.{_≡_, refl, sym, ap, _∙_}
 use mathlib.Core.Bool.{Bool, true, false, cond}
 use mathlib.Core.List.{List, [], _∷_, _++_}
 use native.Mathlib.Omega.{arith}
+use borrow.Author.Tests.{lt-ltb}
 use lib.Dec.{ltb}
 use lib.ListN.{length, take, replicate, length-append}
 use lib.Seq.{take-at}
 use lib.Ieee.{binary64, toBits}
-use Rattle.drifters_entry.specs.Entry.{kindNumber}
+use Rattle.drifters_entry.specs.Kind.{kindNumber}
 use Rattle.drifters_eqf.specs.declared.filter.Answer.{Answer}
 use Rattle.drifters_eqf.specs.declared.filter.Answer.the-variants.{Nis, Fine, Refused}
 use Rattle.drifters_entry.specs.declared.kind.Kind.{Kind}
-use Rattle.drifters_entry.specs.declared.kind.Kind.the-variants.{Propagate, Position, Velocity, Direction, General, State}
+use Rattle.drifters_entry.proofs.KindLaws.{number-digit}
 use Rattle.call_sheet.specs.declared.text.Text.{Text}
 use Rattle.call_sheet.specs.Bytes.{digit, digits, decimal}
 use Rattle.call_sheet.specs.Text.{answerText}
@@ -36,13 +37,8 @@ decimal-short n = rw length-digits (few (ltb n 10) (ltb n 100))
 
 -- the number of a kind has one digit
 pub kind-digit : (kind : Kind) → length (decimal (kindNumber kind)) ≡ 1
-unfolding decimal digits
-kind-digit Propagate = refl
-kind-digit Position = refl
-kind-digit Velocity = refl
-kind-digit Direction = refl
-kind-digit General = refl
-kind-digit State = refl
+unfolding decimal
+kind-digit kind = rw (length-digits, lt-ltb (kindNumber kind) 10 (number-digit kind))
 
 -- an answer has at most 16 bytes
 pub answer-short : (a : Answer) → length (answerText a) ≤ 16

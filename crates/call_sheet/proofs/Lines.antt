@@ -1,19 +1,23 @@
 -- The laws of lines and of calls in lent runs. Assumes nothing.
 use Prim.Native.Nat.{ℕ, _+_, _*_, _≤_, _<_}
-use mathlib.Core.Path.{_≡_, ap, _∙_}
+use mathlib.Core.Path.{_≡_, refl, sym, ap, _∙_}
+use mathlib.Core.Bool.{Bool, true, false, cond}
 use mathlib.Core.List.{List, [], _∷_, map}
+use mathlib.Core.Option.{Option, none, some, Option·some-injective}
 use native.Mathlib.Numerals.{add-one}
 use native.Mathlib.Omega.{arith}
+use borrow.Author.Tests.{leb-true}
+use lib.Dec.{leb}
 use lib.ListN.{length, getD, take, drop, length-append}
-use lib.Seq.{drop-cons, drop-drop}
+use lib.Seq.{drop-cons}
 use lib.Ieee.{Float}
-use Rattle.drifters_entry.specs.Entry.{callLength, writtenLength}
+use Rattle.drifters_entry.specs.Kind.{callLength, kindOf}
 use Rattle.drifters_entry.specs.Log.{outcomeOn, entriesFrom}
 use Rattle.drifters_eqf.specs.declared.filter.Answer.{Answer}
 use Rattle.drifters_entry.specs.declared.kind.Kind.{Kind}
-use Rattle.drifters_entry.specs.declared.kind.Kind.the-variants.{Propagate, Position, Velocity, Direction, General, State}
-use Rattle.call_sheet.specs.Sheet.{SheetCall, sheetCall, kindOf, callsIn, bitsIn}
+use Rattle.call_sheet.specs.Sheet.{SheetCall, sheetCall, withCall, callFrom, callsIn}
 use Rattle.call_sheet.specs.Text.{callOf, lineText, linesText}
+use Rattle.call_sheet.proofs.SheetLayout.{no-some}
 use Rattle.call_sheet.proofs.Digits.{decimal-short, kind-digit, answer-short}
 
 -- ---- lengths of text
@@ -35,36 +39,37 @@ lines-short i run (c ∷ cs) =
     let rest = lines-short (i + 1) (o .run) cs in
     omega (arith, length-append (lineText i (c .kind) (o .answer)) (linesOn (i + 1) (o .run) cs))
 
--- a state has the most numbers that are written
-pub written-short : (kind : Kind) → writtenLength kind ≤ 33
-written-short Propagate = omega arith
-written-short Position = omega arith
-written-short Velocity = omega arith
-written-short Direction = omega arith
-written-short General = omega arith
-written-short State = omega arith
-
 -- ---- the calls from the i-th on, with their numbers from a place on
 
--- the kind of the call at a place
-abbrev pub kindThere : List ℕ → ℕ → Kind
-kindThere kinds i = kindOf (getD kinds i 0)
+-- what calls are that are given by a number before others, and by bits: the call of its kind with the first bits, and the calls of the others
+pub record Taken (k : ℕ) (ks bits : List ℕ) (cs : List SheetCall) : Type 0 where
+  pub kind : Kind
+  pub rest : List SheetCall
+  pub is-kind : kindOf k ≡ some kind
+  pub enough : callLength kind ≤ length bits
+  pub is : sheetCall kind (take (callLength kind) bits) ∷ rest ≡ cs
+  pub after : callsIn ks (drop (callLength kind) bits) ≡ some rest
 
-module _ (kinds : List ℕ) (i : ℕ) (h : i < length kinds) where
-  kinds-next : drop i kinds ≡ getD kinds i 0 ∷ drop (i + 1) kinds
-  kinds-next = rw add-one (drop-cons kinds i 0 h)
+taken : (k : ℕ) (ks bits : List ℕ) (cs : List SheetCall) → callsIn (k ∷ ks) bits ≡ some cs → Taken k ks bits cs
+unfolding callsIn
+taken k ks bits cs e = by-kind (kindOf k) refl e
+  where
+    by-rest : (kind : Kind) (o : Option (List SheetCall)) → kindOf k ≡ some kind → callLength kind ≤ length bits
+        → callsIn ks (drop (callLength kind) bits) ≡ o → withCall (sheetCall kind (take (callLength kind) bits)) o ≡ some cs → Taken k ks bits cs
+    by-rest kind none f l r e = no-some e
+    by-rest kind (some rest) f l r e = record { kind = kind; rest = rest; is-kind = f; enough = l; is = Option·some-injective _ cs e; after = r }
 
-  pub bits-next : bitsIn (drop i kinds) ≡ callLength (kindThere kinds i) + bitsIn (drop (i + 1) kinds)
-  unfolding bitsIn
-  bits-next = ap bitsIn kinds-next
+    by-length : (kind : Kind) (b : Bool) → kindOf k ≡ some kind → leb (callLength kind) (length bits) ≡ b
+        → cond b (withCall (sheetCall kind (take (callLength kind) bits)) (callsIn ks (drop (callLength kind) bits))) none ≡ some cs → Taken k ks bits cs
+    by-length kind true f l e = by-rest kind (callsIn ks (drop (callLength kind) bits)) f (leb-true _ _ l) refl e
+    by-length kind false f l e = no-some e
 
-  pub calls-next : (numbers : List ℕ) (at : ℕ) →
-      let kind = kindThere kinds i in
-      let n = callLength kind in
-      callsIn (drop i kinds) (drop at numbers) ≡ sheetCall kind (take n (drop at numbers)) ∷ callsIn (drop (i + 1) kinds) (drop (at + n) numbers)
-  unfolding callsIn
-  calls-next numbers at =
-      let kind = kindThere kinds i in
-      let n = callLength kind in
-      ap (λ (ks : List ℕ). callsIn ks (drop at numbers)) kinds-next
-      ∙ ap (λ (bits : List ℕ). sheetCall kind (take n (drop at numbers)) ∷ callsIn (drop (i + 1) kinds) bits) (drop-drop n at numbers)
+    by-kind : (o : Option Kind) → kindOf k ≡ o → callFrom o bits (callsIn ks) ≡ some cs → Taken k ks bits cs
+    by-kind none f e = no-some e
+    by-kind (some kind) f e = by-length kind (leb (callLength kind) (length bits)) f refl e
+
+pub calls-next : (kinds : List ℕ) (i : ℕ) → i < length kinds → (bits : List ℕ) {cs : List SheetCall} → callsIn (drop i kinds) bits ≡ some cs
+    → Taken (getD kinds i 0) (drop (i + 1) kinds) bits cs
+calls-next kinds i h bits {cs} e =
+    let first : getD kinds i 0 ∷ drop (i + 1) kinds ≡ drop i kinds = sym (rw add-one (drop-cons kinds i 0 h)) in
+    taken (getD kinds i 0) (drop (i + 1) kinds) bits cs (ap (λ (ks : List ℕ). callsIn ks bits) first ∙ e)

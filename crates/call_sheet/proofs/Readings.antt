@@ -3,7 +3,8 @@ use mathlib.Core.Path.{refl}
 use lib.Ieee.{ofBits, toBits}
 use Rattle.drifters_entry.specs.Log.{entriesFrom}
 use Rattle.call_sheet.specs.Bytes.{digits, decimal}
-use Rattle.call_sheet.specs.Sheet.{findKind, callsAt, headerFits, readSheet}
+use Rattle.drifters_entry.specs.Kind.{findKind}
+use Rattle.call_sheet.specs.Sheet.{callsAt, headerFits, readSheet}
 use Rattle.call_sheet.specs.Text.{numbersOf, lineText, linesText, sheetText}
 use Rattle.call_sheet.specs.Readings.{readings, Readings}
 use Rattle.drifters_real.proofs.Reading.{asStated}

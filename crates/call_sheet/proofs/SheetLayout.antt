@@ -1,4 +1,4 @@
--- The laws of the layout: kinds by their numbers, the calls that are found in a file's bytes, the sheet that is read, and the runs that it is read into.
+-- The laws of the layout: the calls that are found in a file's bytes, the sheet that is read, and the runs that it is read into.
 -- Assumes nothing.
 use Prim.Native.Nat.{ℕ, zero, suc, _+_, _-_, _*_, _≤_, _<_}
 use mathlib.Core.Path.{_≡_, refl, sym, ap, _∙_, subst}
@@ -15,10 +15,10 @@ use lib.Seq.{take-at, drop-at}
 use Rattle.drifters_matrix.specs.Matrix.{tab}
 use Rattle.drifters_matrix.proofs.Matrix.Tab.{length-tab, tab-add}
 use Rattle.drifters_eqf.specs.Answer.{lengthRefusal}
-use Rattle.drifters_entry.specs.Entry.{kindNumber, callLength}
+use Rattle.drifters_entry.specs.Kind.{kindNumber, callLength, kindOf}
 use Rattle.drifters_entry.specs.Layout.{filterLength}
 use Rattle.drifters_entry.specs.declared.kind.Kind.{Kind}
-use Rattle.drifters_entry.specs.declared.kind.Kind.the-variants.{Propagate, Position, Velocity, Direction, General, State}
+use Rattle.drifters_entry.proofs.KindLaws.{kindsFound, number-of-kind}
 use Rattle.call_sheet.specs.declared.sheet.Filled.the-variants.{Refused}
 use Rattle.call_sheet.specs.Bytes.{u64At, u64sAt}
 use Rattle.call_sheet.specs.Sheet.{
@@ -32,8 +32,6 @@ use Rattle.call_sheet.specs.Sheet.{
   SheetCall,
   sheetCall,
   Sheet,
-  allKinds,
-  findKind,
   withCall,
   callBefore,
   callsAt,
@@ -43,63 +41,23 @@ use Rattle.call_sheet.specs.Sheet.{
   isSome,
   kindsOf,
   bitsOf,
-  kindOf,
+  callFrom,
   callsIn,
-  bitsIn,
   mostCalls,
   mostNumbers,
   runs,
   inRuns,
   readInto,
 }
-use Rattle.call_sheet.proofs.KindNumbers.{kind-of-number}
-
--- ---- kinds
 
 -- `none` is not `some`
-no-some : {A B : Type 0} {a : A} → _≡_ {A = Option A} none (some a) → B
+pub no-some : {A B : Type 0} {a : A} → _≡_ {A = Option A} none (some a) → B
 no-some e = absurd (false≢true (ap isSome e))
 
--- a kind that is found has the number that it is found by
-found-number : (k : ℕ) (kinds : List Kind) {kind : Kind} → findKind k kinds ≡ some kind → kindNumber kind ≡ k
-unfolding findKind
-found-number k [] e = no-some e
-found-number k (x ∷ xs) {kind} e = go (eqb k (kindNumber x)) refl e (λ r. found-number k xs r)
-  where
-    go : (b : Bool) → eqb k (kindNumber x) ≡ b → cond b (some x) (findKind k xs) ≡ some kind
-        → (findKind k xs ≡ some kind → kindNumber kind ≡ k) → kindNumber kind ≡ k
-    go true t e later = ap kindNumber (sym (Option·some-injective x kind e)) ∙ sym (eqb-true k (kindNumber x) t)
-    go false t e later = later e
-
--- a number from 1 to 6 has a kind
-kind-found : (k : ℕ) → 1 ≤ k → k ≤ 6 → findKind k allKinds ≡ some (kindOf k)
-unfolding findKind kindOf
-kind-found zero h l = absurd (omega arith)
-kind-found (suc zero) h l = refl
-kind-found (suc (suc zero)) h l = refl
-kind-found (suc (suc (suc zero))) h l = refl
-kind-found (suc (suc (suc (suc zero)))) h l = refl
-kind-found (suc (suc (suc (suc (suc zero))))) h l = refl
-kind-found (suc (suc (suc (suc (suc (suc zero)))))) h l = refl
-kind-found (suc (suc (suc (suc (suc (suc (suc k))))))) h l = absurd (omega arith)
-
--- the number of a kind is from 1 to 6
-number-range : (kind : Kind) → (1 ≤ kindNumber kind) × (kindNumber kind ≤ 6)
-number-range Propagate = omega arith
-number-range Position = omega arith
-number-range Velocity = omega arith
-number-range Direction = omega arith
-number-range General = omega arith
-number-range State = omega arith
-
--- a call has at most 75 numbers
-pub call-most : (kind : Kind) → callLength kind ≤ 75
-call-most Propagate = omega arith
-call-most Position = omega arith
-call-most Velocity = omega arith
-call-most Direction = omega arith
-call-most General = omega arith
-call-most State = omega arith
+-- what there is
+pub some-found : {A : Type 0} (o : Option A) → isSome o ≡ true → (a : A) × (o ≡ some a)
+some-found none e = absurd (false≢true e)
+some-found (some a) e = (a, refl)
 
 -- ---- one call after another
 
@@ -108,8 +66,7 @@ pub record Next (k i : ℕ) (s : List ℕ) (place : ℕ) (cs : List SheetCall) :
   pub kind : Kind
   pub rest : List SheetCall
   pub offset : offsetAt s i ≡ place
-  pub number : kindNumber kind ≡ kindAt s i
-  pub range : (1 ≤ kindNumber kind) × (kindNumber kind ≤ 6)
+  pub is-kind : kindOf (kindAt s i) ≡ some kind
   pub is : sheetCall kind (u64sAt (callLength kind) s place) ∷ rest ≡ cs
   pub found : callsAt k (i + 1) s (place + 8 * callLength kind) ≡ some rest
 
@@ -117,7 +74,7 @@ next : (k i : ℕ) (s : List ℕ) (place : ℕ) (cs : List SheetCall) → callsA
 unfolding callsAt
 next k i s place cs e = by-offset (eqb (offsetAt s i) place) refl e
   where
-    by-rest : (kind : Kind) (o : Option (List SheetCall)) → offsetAt s i ≡ place → findKind (kindAt s i) allKinds ≡ some kind
+    by-rest : (kind : Kind) (o : Option (List SheetCall)) → offsetAt s i ≡ place → kindOf (kindAt s i) ≡ some kind
         → callsAt k (i + 1) s (place + 8 * callLength kind) ≡ o → withCall (sheetCall kind (u64sAt (callLength kind) s place)) o ≡ some cs
         → Next k i s place cs
     by-rest kind none p f r e = no-some e
@@ -125,20 +82,19 @@ next k i s place cs e = by-offset (eqb (offsetAt s i) place) refl e
       kind = kind;
       rest = rest;
       offset = p;
-      number = found-number (kindAt s i) allKinds f;
-      range = number-range kind;
+      is-kind = f;
       is = Option·some-injective _ cs e;
       found = r;
     }
 
-    by-kind : (o : Option Kind) → offsetAt s i ≡ place → findKind (kindAt s i) allKinds ≡ o
+    by-kind : (o : Option Kind) → offsetAt s i ≡ place → kindOf (kindAt s i) ≡ o
         → callBefore o s place (callsAt k (i + 1) s) ≡ some cs → Next k i s place cs
     by-kind none p f e = no-some e
     by-kind (some kind) p f e = by-rest kind (callsAt k (i + 1) s (place + 8 * callLength kind)) p f refl e
 
     by-offset : (b : Bool) → eqb (offsetAt s i) place ≡ b
-        → cond b (callBefore (findKind (kindAt s i) allKinds) s place (callsAt k (i + 1) s)) none ≡ some cs → Next k i s place cs
-    by-offset true t e = by-kind (findKind (kindAt s i) allKinds) (eqb-true (offsetAt s i) place t) refl e
+        → cond b (callBefore (kindOf (kindAt s i)) s place (callsAt k (i + 1) s)) none ≡ some cs → Next k i s place cs
+    by-offset true t e = by-kind (kindOf (kindAt s i)) (eqb-true (offsetAt s i) place t) refl e
     by-offset false t e = no-some e
 
 -- a loop over the entries i below n: no calls are found
@@ -153,18 +109,17 @@ no-calls n i s place h never = rw step (go (callsAt (suc (n - (i + 1))) i s plac
     go none e = refl
     go (some cs) e = absurd (never cs (next (n - (i + 1)) i s place cs e))
 
--- one more is found, where k is the number of its kind and it has m numbers
-pub calls-step : (n i : ℕ) (s : List ℕ) (place : ℕ) {k m : ℕ} → i < n → k ≡ kindAt s i → 1 ≤ k → k ≤ 6 → offsetAt s i ≡ place → m ≡ callLength (kindOf k)
+-- one more is found, of a kind, and it has m numbers
+pub calls-step : (n i : ℕ) (s : List ℕ) (place : ℕ) {kind : Kind} {m : ℕ} → i < n → kindOf (kindAt s i) ≡ some kind → offsetAt s i ≡ place → m ≡ callLength kind
     → isSome (callsAt (n - i) i s place) ≡ isSome (callsAt (n - (i + 1)) (i + 1) s (place + 8 * m))
 unfolding callsAt
-calls-step n i s place {k} {m} h e least most p l =
-    let found : findKind (kindAt s i) allKinds ≡ some (kindOf k) = ap (λ (x : ℕ). findKind x allKinds) (sym e) ∙ kind-found k least most in
-    rw (step, eq-eqb (offsetAt s i) place p, found, l) (go (callsAt (n - (i + 1)) (i + 1) s (place + 8 * callLength (kindOf k))))
+calls-step n i s place {kind} {m} h found p l =
+    rw (step, eq-eqb (offsetAt s i) place p, found, l) (go (callsAt (n - (i + 1)) (i + 1) s (place + 8 * callLength kind)))
   where
     step : n - i ≡ suc (n - (i + 1))
     step = omega arith
 
-    go : (o : Option (List SheetCall)) → isSome (withCall (sheetCall (kindOf k) (u64sAt (callLength (kindOf k)) s place)) o) ≡ isSome o
+    go : (o : Option (List SheetCall)) → isSome (withCall (sheetCall kind (u64sAt (callLength kind) s place)) o) ≡ isSome o
     go none = refl
     go (some cs) = refl
 
@@ -205,26 +160,24 @@ pub record Calls (k i : ℕ) (s : List ℕ) (place : ℕ) (cs : List SheetCall) 
   pub kinds : kindsOf cs ≡ tab k (λ j. kindAt s (i + j))
   pub bits : bitsOf cs ≡ u64sAt (length (bitsOf cs)) s place
   pub ends : place + 8 * length (bitsOf cs) ≡ length s
-  pub sizes : bitsIn (kindsOf cs) ≡ length (bitsOf cs)
-  pub back : (others : List ℕ) → callsIn (kindsOf cs) (bitsOf cs ++ others) ≡ cs
+  pub back : (others : List ℕ) → callsIn (kindsOf cs) (bitsOf cs ++ others) ≡ some cs
 
 -- no entry is left
 none-found : (i : ℕ) (s : List ℕ) (place : ℕ) → place ≡ length s → Calls 0 i s place []
-unfolding kindsOf bitsOf callsIn bitsIn u64sAt tab
-none-found i s place e = record { count = refl; kinds = refl; bits = refl; ends = omega (arith, e); sizes = refl; back = λ others. refl }
+unfolding kindsOf bitsOf callsIn u64sAt tab
+none-found i s place e = record { count = refl; kinds = refl; bits = refl; ends = omega (arith, e); back = λ others. refl }
 
 -- a call before others
 module _ (k i : ℕ) (s : List ℕ) (place : ℕ) (kind : Kind) (rest : List SheetCall) (number : kindNumber kind ≡ kindAt s i)
     (after : Calls k (i + 1) s (place + 8 * callLength kind) rest) where
   one-found : Calls (suc k) i s place (sheetCall kind (u64sAt (callLength kind) s place) ∷ rest)
-  unfolding kindsOf bitsOf callsIn bitsIn
+  unfolding kindsOf bitsOf callsIn
   one-found =
       let n = callLength kind in
       let here = u64sAt n s place in
       let later = bitsOf rest in
       let size : length here ≡ n = length-u64s n s place in
       let total : length (here ++ later) ≡ n + length later = length-append here later ∙ ap (λ (m : ℕ). m + length later) size in
-      let known = kind-of-number kind in
       let entry : (j : ℕ) → i + 1 + j ≡ i + (1 + j) = λ j. omega arith in
       let first : kindNumber kind ≡ kindAt s (i + 0) = number ∙ ap (kindAt s) (sym (add-zero i)) in
       record {
@@ -232,14 +185,14 @@ module _ (k i : ℕ) (s : List ℕ) (place : ℕ) (kind : Kind) (rest : List She
         kinds = (λ t. first t ∷ (after .kinds ∙ (λ u. tab k (λ j. kindAt s (entry j u)))) t) ∙ sym (tab-first k (λ j. kindAt s (i + j)));
         bits = ap (λ (l : List ℕ). here ++ l) (after .bits) ∙ sym (u64s-add n (length later) s place) ∙ ap (λ (m : ℕ). u64sAt m s place) (sym total);
         ends = omega (arith, total, after .ends);
-        sizes = (λ t. callLength (known t) + after .sizes t) ∙ sym total;
         back = λ others.
             let all = here ++ later ++ others in
             let split : all ≡ here ++ (later ++ others) = append-assoc here later others in
             let taken : take n all ≡ here = ap (take n) split ∙ take-at here (later ++ others) n size in
             let left : drop n all ≡ later ++ others = ap (drop n) split ∙ drop-at here (later ++ others) n size in
-            (λ t. sheetCall (known t) (take (callLength (known t)) all) ∷ callsIn (kindsOf rest) (drop (callLength (known t)) all))
-            ∙ (λ t. sheetCall kind (taken t) ∷ (ap (callsIn (kindsOf rest)) left ∙ after .back others) t);
+            let enough : n ≤ length all = omega (arith, size, ap length split, length-append here (later ++ others)) in
+            ap (λ (o : Option Kind). callFrom o all (callsIn (kindsOf rest))) (kindsFound kind)
+            ∙ rw (le-leb n (length all) enough, taken, left, after .back others);
       }
 
 calls-found : (k i : ℕ) (s : List ℕ) (place : ℕ) (cs : List SheetCall) → callsAt k i s place ≡ some cs → Calls k i s place cs
@@ -252,7 +205,7 @@ calls-found zero i s place cs e = go (eqb place (length s)) refl e
 calls-found (suc k) i s place cs e =
     let n = next k i s place cs e in
     subst (λ (l : List SheetCall). Calls (suc k) i s place l) (n .is)
-    (one-found k i s place (n .kind) (n .rest) (n .number) (calls-found k (i + 1) s (place + 8 * callLength (n .kind)) (n .rest) (n .found)))
+    (one-found k i s place (n .kind) (n .rest) (number-of-kind (kindAt s i) (n .is-kind)) (calls-found k (i + 1) s (place + 8 * callLength (n .kind)) (n .rest) (n .found)))
 
 -- ---- the sheet
 
@@ -335,11 +288,7 @@ module _ (s : List ℕ) where
 
 -- the sheet that is read
 pub sheet-found : (s : List ℕ) → isSome (readSheet s) ≡ true → (sheet : Sheet) × (readSheet s ≡ some sheet)
-sheet-found s e = go (readSheet s) refl e
-  where
-    go : (o : Option Sheet) → readSheet s ≡ o → isSome o ≡ true → (sheet : Sheet) × (readSheet s ≡ some sheet)
-    go none r e = absurd (false≢true e)
-    go (some sheet) r e = (sheet, r)
+sheet-found s e = some-found (readSheet s) e
 
 -- and where none is
 pub sheet-none : (s : List ℕ) → isSome (readSheet s) ≡ false → readSheet s ≡ none

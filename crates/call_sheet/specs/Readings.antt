@@ -1,14 +1,16 @@
 -- Readings of the sheet's layout and text: one table, and one theorem. A file that is refused differs in one field from one that is taken.
 -- Definitions and statements only.
-use Prim.Native.Nat.{ℕ, _+_, _/_, _%_}
+use Prim.Native.Nat.{ℕ, suc, _+_, _-_, _*_, _/_, _%_}
 use mathlib.Core.Bool.{Bool, true, false, cond}
 use mathlib.Core.List.{List, [], _∷_, _++_}
-use lib.ListN.{replicate}
+use lib.ListN.{length, replicate}
 use lib.Ieee.{binary64, ofBits}
 use Rattle.drifters_eqf.specs.declared.filter.Answer.the-variants.{Nis, Fine, Refused}
+use Rattle.drifters_entry.specs.Layout.{filterLength}
+use Rattle.drifters_entry.specs.Kind.{kindNumber, callLength, allKinds}
 use Rattle.drifters_entry.specs.declared.kind.Kind.the-variants.{Position, State}
 use Rattle.drifters_real.specs.Reading.{Reading, reads, AsStated}
-use Rattle.call_sheet.specs.Sheet.{tableBytes, headerFits, readSheet, isSome}
+use Rattle.call_sheet.specs.Sheet.{tableBytes, filterEnd, headerFits, readSheet, isSome}
 use Rattle.call_sheet.specs.Text.{lineText, sheetText}
 
 -- 1 for true, 0 for false
@@ -31,13 +33,21 @@ header count kind after = u32 count ++ entry kind (tableBytes count + after)
 abbrev pub fits : List ℕ → Bool → Reading
 fits s stated = reads (truth (headerFits s)) (truth stated)
 
+-- the bytes of a filter
+abbrev pub filterBytes : ℕ
+filterBytes = 8 * filterLength
+
+-- the bytes of the numbers of a position call
+abbrev pub positionBytes : ℕ
+positionBytes = 8 * callLength Position
+
 -- the file of a filter alone, of n bytes of zeros
 abbrev pub filterAlone : ℕ → List ℕ
 filterAlone n = header 1 0 0 ++ replicate n 0
 
 -- the file of a filter of zeros and one call: its kind, its offset, and its n bytes of zeros
 abbrev pub oneCall : ℕ → ℕ → ℕ → List ℕ
-oneCall kind offset n = header 2 0 0 ++ entry kind offset ++ replicate (3824 + n) 0
+oneCall kind offset n = header 2 0 0 ++ entry kind offset ++ replicate (filterBytes + n) 0
 
 -- whether a file is a sheet
 abbrev pub isSheet : List ℕ → Bool → Reading
@@ -70,19 +80,19 @@ readings =
     ∷ fits (header 1 1 0) false
     ∷ fits (header 1 0 1) false
     -- a filter alone prints nothing; a byte more or less is refused
-    ∷ reads (sheetText (filterAlone 3824)) []
-    ∷ reads (sheetText (filterAlone 3825)) refusedSix
-    ∷ reads (sheetText (filterAlone 3823)) refusedSix
-    -- a position call of 96 bytes is right after the filter, and ends the file
-    ∷ isSheet (oneCall 2 3844 96) true
-    ∷ isSheet (oneCall 2 3843 96) false
-    ∷ isSheet (oneCall 2 3845 96) false
-    ∷ isSheet (oneCall 2 3844 95) false
-    ∷ isSheet (oneCall 2 3844 97) false
-    -- of a call with no numbers: kind 6; there is no kind 7, and no second filter
-    ∷ isSheet (oneCall 6 3844 0) true
-    ∷ isSheet (oneCall 7 3844 0) false
-    ∷ isSheet (oneCall 0 3844 0) false
+    ∷ reads (sheetText (filterAlone filterBytes)) []
+    ∷ reads (sheetText (filterAlone (filterBytes + 1))) refusedSix
+    ∷ reads (sheetText (filterAlone (filterBytes - 1))) refusedSix
+    -- the body of a position call is right after the filter, and ends the file
+    ∷ isSheet (oneCall (kindNumber Position) (filterEnd 2) positionBytes) true
+    ∷ isSheet (oneCall (kindNumber Position) (filterEnd 2 - 1) positionBytes) false
+    ∷ isSheet (oneCall (kindNumber Position) (filterEnd 2 + 1) positionBytes) false
+    ∷ isSheet (oneCall (kindNumber Position) (filterEnd 2) (positionBytes - 1)) false
+    ∷ isSheet (oneCall (kindNumber Position) (filterEnd 2) (positionBytes + 1)) false
+    -- of a call with no numbers: a state; no kind has the number after the last, and there is no second filter
+    ∷ isSheet (oneCall (kindNumber State) (filterEnd 2) 0) true
+    ∷ isSheet (oneCall (suc (length allKinds)) (filterEnd 2) 0) false
+    ∷ isSheet (oneCall 0 (filterEnd 2) 0) false
     ∷ []
 
 -- every row of the table is as stated

@@ -8,9 +8,8 @@ use lib.Dec.{eqb, leb}
 use lib.ListN.{length, take, drop}
 use Rattle.drifters_eqf.specs.Answer.{lengthRefusal, sheetRefusal}
 use Rattle.drifters_entry.specs.Layout.{filterLength}
-use Rattle.drifters_entry.specs.Entry.{kindNumber, callLength}
+use Rattle.drifters_entry.specs.Kind.{kindNumber, callLength, kindOf}
 use Rattle.drifters_entry.specs.declared.kind.Kind.{Kind}
-use Rattle.drifters_entry.specs.declared.kind.Kind.the-variants.{Propagate, Position, Velocity, Direction, General, State}
 use Rattle.call_sheet.specs.declared.sheet.Filled.{Filled}
 use Rattle.call_sheet.specs.declared.sheet.Filled.the-variants.{Length, Refused}
 use Rattle.call_sheet.specs.Bytes.{u32At, u64sAt, placed}
@@ -59,19 +58,6 @@ pub record Sheet : Type 0 where
   pub filter : List ℕ
   pub calls : List SheetCall
 
--- every kind of call
-abbrev pub allKinds : List Kind
-allKinds = Propagate ∷ Position ∷ Velocity ∷ Direction ∷ General ∷ State ∷ []
-
--- the first of some kinds that has a number
-unfoldable pub findKind : ℕ → List Kind → Option Kind
-findKind n [] = none
-findKind n (kind ∷ kinds) = cond (eqb n (kindNumber kind)) (some kind) (findKind n kinds)
-
--- every kind is found by its number
-abbrev pub KindsFound : Type 0
-KindsFound = (kind : Kind) → findKind (kindNumber kind) allKinds ≡ some kind
-
 -- a call, and those that follow it
 abbrev pub withCall : SheetCall → Option (List SheetCall) → Option (List SheetCall)
 withCall c none = none
@@ -85,7 +71,7 @@ callBefore (some kind) s place rest = withCall (sheetCall kind (u64sAt (callLeng
 -- k entries from entry i on, the first body at a place: each begins where the one before it ends, and the file ends with the last
 unfoldable pub callsAt : ℕ → ℕ → List ℕ → ℕ → Option (List SheetCall)
 callsAt zero i s place = cond (eqb place (length s)) (some []) none
-callsAt (suc k) i s place = cond (eqb (offsetAt s i) place) (callBefore (findKind (kindAt s i) allKinds) s place (callsAt k (i + 1) s)) none
+callsAt (suc k) i s place = cond (eqb (offsetAt s i) place) (callBefore (kindOf (kindAt s i)) s place (callsAt k (i + 1) s)) none
 
 -- count and size are in range, and entry 0 is a filter right after the table
 unfoldable pub headerFits : List ℕ → Bool
@@ -160,33 +146,24 @@ readInto s filter kinds numbers = cond (runsFit filter kinds numbers) (inRuns (r
 
 -- ---- the way back
 
--- a kind that was found; a state where there is none
-abbrev pub foundKind : Option Kind → Kind
-foundKind none = State
-foundKind (some kind) = kind
+-- the call of a kind that has the first of some bits, before those that the others give; none where there is no kind, or too few bits
+abbrev pub callFrom : Option Kind → List ℕ → (List ℕ → Option (List SheetCall)) → Option (List SheetCall)
+callFrom none bits rest = none
+callFrom (some kind) bits rest =
+    let n = callLength kind in
+    cond (leb n (length bits)) (withCall (sheetCall kind (take n bits)) (rest (drop n bits))) none
 
--- the kind of a number; a state where it has none
-unfoldable pub kindOf : ℕ → Kind
-kindOf n = foundKind (findKind n allKinds)
-
--- the calls of kinds, with the bits of their numbers one after another
-unfoldable pub callsIn : List ℕ → List ℕ → List SheetCall
-callsIn [] bits = []
-callsIn (k ∷ ks) bits =
-    let n = callLength (kindOf k) in
-    sheetCall (kindOf k) (take n bits) ∷ callsIn ks (drop n bits)
-
--- how many numbers the calls of kinds have
-unfoldable pub bitsIn : List ℕ → ℕ
-bitsIn [] = 0
-bitsIn (k ∷ ks) = callLength (kindOf k) + bitsIn ks
+-- the calls of the kinds of some numbers, with the bits of their numbers one after another
+unfoldable pub callsIn : List ℕ → List ℕ → Option (List SheetCall)
+callsIn [] bits = some []
+callsIn (k ∷ ks) bits = callFrom (kindOf k) bits (callsIn ks)
 
 -- a sheet has its place in the runs, and the runs give its calls back, whatever follows in them
 pub record Held (sheet : Sheet) : Type 0 where
   pub filter : length (sheet .filter) ≡ filterLength
   pub calls : length (sheet .calls) ≤ mostCalls
   pub numbers : length (bitsOf (sheet .calls)) ≤ mostNumbers
-  pub back : (others : List ℕ) → callsIn (kindsOf (sheet .calls)) (bitsOf (sheet .calls) ++ others) ≡ sheet .calls
+  pub back : (others : List ℕ) → callsIn (kindsOf (sheet .calls)) (bitsOf (sheet .calls) ++ others) ≡ some (sheet .calls)
 
 -- so it is for every sheet that is read
 abbrev pub SheetsHeld : Type 0

@@ -7,8 +7,8 @@ use lib.Dec.{leb}
 use lib.ListN.{length}
 use lib.Ieee.{Float, binary64, ofBits, toBits}
 use Rattle.drifters_eqf.specs.Answer.{lengthRefusal, sheetRefusal}
-use Rattle.drifters_entry.specs.Entry.{kindNumber}
-use Rattle.drifters_entry.specs.Log.{Call, LogEntry, Log, logOf}
+use Rattle.drifters_entry.specs.Kind.{kindNumber}
+use Rattle.drifters_entry.specs.Log.{Call, LogEntry, Log, entriesFrom, logOf}
 use Rattle.drifters_eqf.specs.declared.filter.Answer.{Answer}
 use Rattle.drifters_eqf.specs.declared.filter.Answer.the-variants.{Nis, Fine, Refused}
 use Rattle.drifters_entry.specs.declared.kind.Kind.{Kind}
@@ -63,6 +63,11 @@ sheetLog sheet = logOf (numbersOf (sheet .filter)) (map callOf (sheet .calls))
 unfoldable pub linesText : ℕ → List LogEntry → List ℕ
 linesText i [] = []
 linesText i (e ∷ es) = lineText i (e .called .kind) (e .answer) ++ linesText (i + 1) es
+
+-- the lines of calls, made on a filter's run; none where there are no calls
+abbrev pub linesOf : List Float → Option (List SheetCall) → List ℕ
+linesOf run none = []
+linesOf run (some calls) = linesText 1 (entriesFrom run (map callOf calls))
 
 -- the text of a sheet: the lines of its log; of a broken one only that it is refused
 abbrev pub textOf : Option Sheet → List ℕ

@@ -1,18 +1,17 @@
 // Running a call sheet: its bytes in, the text of its answers out.
 ghost use mathlib.Core.Path.{_≡_};
-ghost use mathlib.Core.List.{map};
+ghost use mathlib.Core.Bool.{true};
 ghost use Prim.Native.Nat.{_+_, _*_, _≤_};
 ghost use lib.ListN.{length, take};
 ghost use lib.Ieee.{binary64, ofBits};
-ghost use Rattle.drifters_entry.specs.Entry.{callLength};
-ghost use Rattle.drifters_entry.specs.Log.{outcomeOn, entriesFrom};
+ghost use Rattle.drifters_entry.specs.Kind.{callLength};
+ghost use Rattle.drifters_entry.specs.Log.{outcomeOn};
 ghost use Rattle.call_sheet.specs.Bytes.{placed};
-ghost use Rattle.call_sheet.specs.Sheet.{sheetCall, bitsIn, callsIn};
-ghost use Rattle.call_sheet.specs.Text.{refusedLine, numbersOf, callOf, linesText, sheetText, printed, printInto};
+ghost use Rattle.call_sheet.specs.Sheet.{sheetCall, isSome, callsIn};
+ghost use Rattle.call_sheet.specs.Text.{refusedLine, numbersOf, callOf, linesOf, sheetText, printed, printInto};
 use crate::sheet::Filled;
 use crate::sheet::MOST_CALLS;
 use crate::sheet::MOST_NUMBERS;
-use crate::sheet::kind_of;
 use crate::sheet::read_sheet;
 use crate::text::put;
 use crate::text::put_answer;
@@ -20,17 +19,17 @@ use crate::text::put_line;
 use drifters_entry::entry::FILTER_LENGTH;
 use drifters_entry::entry::STATE_LENGTH;
 use drifters_entry::entry::call;
-use drifters_entry::entry::call_length;
-use drifters_entry::entry::written_length;
+use drifters_entry::kind::FoundKind;
 use drifters_entry::kind::Kind;
+use drifters_entry::kind::MOST_CALL_NUMBERS;
+use drifters_entry::kind::call_length;
+use drifters_entry::kind::kind_of;
+use drifters_entry::kind::written_length;
 use drifters_eqf::filter::Answer;
 use drifters_eqf::filter::LENGTH_REFUSAL;
 
 // Room for every sheet's text: 23 bytes for each of 255 calls.
 pub const MOST_TEXT: usize = 5865;
-
-// The most numbers of a call.
-const MOST_CALL_NUMBERS: usize = 75;
 
 // Runs a sheet and writes the text of its answers to the front of `text`. Answers the text's length.
 pub fn run_sheet(s: &[u8], text: &mut [u8]) -> Filled
@@ -73,15 +72,17 @@ fn put_refused(text: &mut [u8], n: u32) -> usize
 }
 
 // Makes the calls in turn, each on the filter that the one before it left, and writes their lines to the front of `text`. Answers the length of
-// these.
+// these. What is asked rules out a number that is of no kind.
 fn run_calls(run: &mut [f64], kinds: &[u32], numbers: &[u64], text: &mut [u8]) -> usize
-    requires { ⌜ (bitsIn (now kinds) ≤ length (now numbers)) × (23 * length (now kinds) ≤ length (now text)) ⌝ }
-    ensures { λ r. ⌜ (r ≡ length (linesText 1 (entriesFrom (now (run .entry)) (map callOf (callsIn (now (kinds .entry)) (now (numbers .entry))))))) × (now (text .exit) ≡ placed (now (text .entry)) 0 (linesText 1 (entriesFrom (now (run .entry)) (map callOf (callsIn (now (kinds .entry)) (now (numbers .entry))))))) ⌝ }
+    requires { ⌜ (isSome (callsIn (now kinds) (now numbers)) ≡ true) × (23 * length (now kinds) ≤ length (now text)) ⌝ }
+    ensures { λ r. ⌜ (r ≡ length (linesOf (now (run .entry)) (callsIn (now (kinds .entry)) (now (numbers .entry))))) × (now (text .exit) ≡ placed (now (text .entry)) 0 (linesOf (now (run .entry)) (callsIn (now (kinds .entry)) (now (numbers .entry))))) ⌝ }
 {
     let mut at = 0;
     let mut length = 0;
     for i in 0..kinds.len() {
-        let kind = kind_of(kinds[i]);
+        let FoundKind::Known(kind) = kind_of(kinds[i]) else {
+            return 0;
+        };
         let end = at + call_length(kind);
         let answer = run_call(kind, run, &numbers[at..end]);
         length = put_line(text, length, i + 1, kind, answer);

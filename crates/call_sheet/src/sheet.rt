@@ -2,14 +2,14 @@
 ghost use mathlib.Core.Path.{_≡_};
 ghost use Prim.Native.Nat.{_+_, _-_, _*_, _≤_};
 ghost use lib.ListN.{length};
-ghost use Rattle.drifters_entry.specs.Entry.{kindNumber};
 ghost use Rattle.drifters_matrix.specs.Matrix.{tab};
-ghost use Rattle.call_sheet.specs.Sheet.{kindAt, filterEnd, callsAt, readSheet, isSome, runs, readInto, kindOf};
+ghost use Rattle.call_sheet.specs.Sheet.{kindAt, filterEnd, callsAt, readSheet, isSome, runs, readInto};
 use crate::bytes::u32_at;
 use crate::bytes::u64s_at;
 use drifters_entry::entry::FILTER_LENGTH;
-use drifters_entry::entry::call_length;
-use drifters_entry::kind::Kind;
+use drifters_entry::kind::FoundKind;
+use drifters_entry::kind::call_length;
+use drifters_entry::kind::kind_of;
 use drifters_eqf::filter::LENGTH_REFUSAL;
 
 // The most entries of a sheet, the filter counted.
@@ -17,9 +17,6 @@ const MOST_ENTRIES: usize = 256;
 
 // The most bytes of a sheet.
 pub const MOST_BYTES: usize = 65536;
-
-// The highest number of a kind.
-const MOST_KIND: u32 = 6;
 
 // The most calls of a sheet.
 pub const MOST_CALLS: usize = 255;
@@ -37,7 +34,7 @@ pub enum Filled {
 }
 
 // Reads a sheet: the bits of its filter, the kinds of its calls, and the bits of their numbers one after another, as many as each kind has
-// (`call_length` of `kind_of`). Answers how many calls it has.
+// (`call_length`). Answers how many calls it has.
 pub fn read_sheet(s: &[u8], filter: &mut [u64], kinds: &mut [u32], numbers: &mut [u64]) -> Filled
     ensures { λ r. ⌜ runs r (now (filter .exit)) (now (kinds .exit)) (now (numbers .exit)) ≡ readInto (now (s .entry)) (now (filter .entry)) (now (kinds .entry)) (now (numbers .entry)) ⌝ }
 {
@@ -83,15 +80,14 @@ fn calls_fit(s: &[u8], n: usize) -> bool
 {
     let mut place = 4 + 8 * n + 8 * FILTER_LENGTH;
     for i in 1..n {
-        let kind = u32_at(s, 4 + 8 * i);
-        if kind < 1 || MOST_KIND < kind {
+        let FoundKind::Known(kind) = kind_of(u32_at(s, 4 + 8 * i)) else {
             return false;
-        }
+        };
         let offset = u32_at(s, 8 + 8 * i) as usize;
         if offset != place {
             return false;
         }
-        place += 8 * call_length(kind_of(kind));
+        place += 8 * call_length(kind);
     }
     place == s.len()
 }
@@ -103,33 +99,5 @@ fn read_kinds(s: &[u8], kinds: &mut [u32])
 {
     for i in 0..kinds.len() {
         kinds[i] = u32_at(s, 12 + 8 * i);
-    }
-}
-
-// The kind of a number; a state where a number is of none.
-pub fn kind_of(n: u32) -> Kind
-    ensures { λ r. ⌜ r ≡ kindOf n ⌝ }
-{
-    match n {
-        1 => Kind::Propagate,
-        2 => Kind::Position,
-        3 => Kind::Velocity,
-        4 => Kind::Direction,
-        5 => Kind::General,
-        _ => Kind::State,
-    }
-}
-
-// The number of a kind.
-pub fn kind_number(kind: Kind) -> u64
-    ensures { λ r. ⌜ r ≡ kindNumber kind ⌝ }
-{
-    match kind {
-        Kind::Propagate => 1,
-        Kind::Position => 2,
-        Kind::Velocity => 3,
-        Kind::Direction => 4,
-        Kind::General => 5,
-        Kind::State => 6,
     }
 }

@@ -4,11 +4,11 @@ ghost use Prim.Native.Nat.{_+_, _-_, _≤_, _<_};
 ghost use mathlib.Core.List.{_++_};
 ghost use lib.ListN.{length, replicate};
 ghost use lib.Ieee.{binary64, toBits};
-ghost use Rattle.drifters_entry.specs.Entry.{kindNumber};
+ghost use Rattle.drifters_entry.specs.Kind.{kindNumber};
 ghost use Rattle.call_sheet.specs.Bytes.{placed, digit, digits, decimal};
 ghost use Rattle.call_sheet.specs.Text.{refusedText, answerText, lineText};
-use crate::sheet::kind_number;
 use drifters_entry::kind::Kind;
+use drifters_entry::kind::form_of;
 use drifters_eqf::filter::Answer;
 
 // Text of at most 16 bytes: the first `length` of them; the others are 0.
@@ -54,7 +54,8 @@ fn put_kind(out: &mut [u8], at: usize, kind: Kind) -> usize
     requires { ⌜ at + 3 ≤ length (now out) ⌝ }
     ensures { λ r. ⌜ (r ≡ at + length (decimal (kindNumber kind))) × ((now (out .exit) ≡ placed (now (out .entry)) at (decimal (kindNumber kind))) × (r ≤ at + 1)) ⌝ }
 {
-    put_decimal(out, at, kind_number(kind))
+    let form = form_of(kind);
+    put_decimal(out, at, form.number as u64)
 }
 
 // The text of an answer, from place `at` of `out` on. Answers where it ends.

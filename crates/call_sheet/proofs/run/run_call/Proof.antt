@@ -1,27 +1,24 @@
 -- `run::run_call` meets its contract.
 use mathlib.Core.Path.{_≡_, refl, sym, ap, _∙_}
-use Prim.Native.Nat.{ℕ, _≤_}
+use mathlib.Core.List.{List, _∷_}
+use Prim.Native.Nat.{ℕ, zero, suc, _≤_}
 use native.Mathlib.Omega.{arith}
 use borrow.Author.Needs.{needs}
 use lib.ListN.{length, take, drop, length-append}
 use lib.Seq.{length-take-le, take-at}
+use lib.Ieee.{Float}
 use Rattle.drifters_matrix.specs.Matrix.{zeros}
-use Rattle.drifters_entry.specs.Entry.{writtenLength, Outcome, call}
-use Rattle.drifters_entry.specs.declared.kind.Kind.{Kind}
-use Rattle.drifters_entry.specs.declared.kind.Kind.the-variants.{Propagate, Position, Velocity, Direction, General, State}
-use Rattle.call_sheet.proofs.Lines.{written-short}
-use Rattle.call_sheet.proofs.SheetLayout.{call-most}
+use Rattle.drifters_real.specs.Scalar.{plusZero}
+use Rattle.drifters_entry.specs.Entry.{Outcome, call}
+use Rattle.drifters_entry.proofs.KindLaws.{call-most, written-most}
 use Rattle.call_sheet.proofs.run.run_call.Statement.{statement}
 use Rattle.call_sheet.proofs.run.run_call.Tie as tie
 
--- what a call writes beside the filter is lent as zeros
-zeros-lent : (kind : Kind) → take (writtenLength kind) (zeros 33) ≡ zeros (writtenLength kind)
-zeros-lent Propagate = refl
-zeros-lent Position = refl
-zeros-lent Velocity = refl
-zeros-lent Direction = refl
-zeros-lent General = refl
-zeros-lent State = refl
+-- the first of some zeros
+take-zeros : (m n : ℕ) → m ≤ n → take m (zeros n) ≡ zeros m
+take-zeros zero n h = refl
+take-zeros (suc m) zero h = absurd (omega arith)
+take-zeros (suc m) (suc n) h = ap (λ (l : List Float). plusZero ∷ l) (take-zeros m n (omega arith))
 
 -- the bits of a call are at most 75
 few : (c : tie.Start) → length (c .args .bits .now) ≤ 75
@@ -36,7 +33,7 @@ filled c = c .numbers-of .kept .1 .0 ∙ lent _ (few (c .before .before .before 
 
 -- the places that a call may write are at most 33
 written : (c : tie.After-written-length) → c .written-length .result ≤ 33
-written c = omega (arith, c .written-length .ensures, written-short (c .before .before .before .before .before .before .args .kind))
+written c = omega (arith, c .written-length .ensures, written-most (c .before .before .before .before .before .before .args .kind))
 
 array-share-prefix-numbers : tie.Need-array-share-prefix-numbers
 array-share-prefix-numbers c =
@@ -56,7 +53,7 @@ returns c =
     let f = w .before .before in
     let a = f .before .before .before .before .args in
     let numbers = take-at (f .numbers-of .last .1 .0) _ _ (filled f) ∙ f .numbers-of .ensures in
-    let zeroed = ap (λ (m : ℕ). take m (zeros 33)) (w .written-length .ensures) ∙ zeros-lent (a .kind) in
+    let zeroed = ap (λ (m : ℕ). take m (zeros 33)) (w .written-length .ensures) ∙ take-zeros _ _ (written-most (a .kind)) in
     let outcome = made .call .ensures ∙ (λ i. call (a .kind) (a .run .now) (numbers i) (zeroed i)) in
     (ap (λ (o : Outcome). o .answer) outcome, ap (λ (o : Outcome). o .run) outcome)
 

@@ -1,24 +1,23 @@
 -- `run::run_sheet` meets its contract.
 use mathlib.Core.Path.{_≡_, refl, sym, ap, _∙_}
-use mathlib.Core.Bool.{true≢false}
+use mathlib.Core.Bool.{true, true≢false}
 use mathlib.Core.List.{List, _++_}
 use mathlib.Core.Option.{Option, none, some}
 use Prim.Native.Nat.{ℕ, _+_, _≤_}
 use native.Mathlib.Omega.{arith}
 use borrow.Author.Needs.{needs}
-use lib.ListN.{length, take, drop, replicate, length-append, length-map}
+use lib.ListN.{length, take, drop, replicate, length-map}
 use lib.Seq.{take-at}
 use lib.Ieee.{Float}
-use Rattle.drifters_entry.specs.Entry.{kindNumber}
+use Rattle.drifters_entry.specs.Kind.{kindNumber}
 use Rattle.call_sheet.specs.declared.sheet.Filled.{Filled}
 use Rattle.call_sheet.specs.declared.sheet.Filled.the-variants.{Length, Refused}
 use Rattle.call_sheet.specs.Bytes.{placed}
-use Rattle.call_sheet.specs.Sheet.{Sheet, readSheet, mostCalls, kindsOf, bitsOf, Runs, runs, inRuns, callsIn, bitsIn, Held}
-use Rattle.call_sheet.specs.Text.{refusedLine, numbersOf, textOf, sheetText, printed}
+use Rattle.call_sheet.specs.Sheet.{Sheet, readSheet, mostCalls, kindsOf, bitsOf, Runs, runs, inRuns, isSome, callsIn, Held}
+use Rattle.call_sheet.specs.Text.{refusedLine, numbersOf, linesOf, textOf, sheetText, printed}
 use Rattle.call_sheet.proofs.Held.{sheetsHeld}
-use Rattle.call_sheet.proofs.Lines.{linesOn}
 use Rattle.call_sheet.proofs.TextLength.{isLength, numberIn, room, no-room}
-use Rattle.call_sheet.proofs.SheetLayout.{sheet-read, read-fitting}
+use Rattle.call_sheet.proofs.SheetLayout.{read-fitting}
 use Rattle.call_sheet.proofs.run.run_sheet.Statement.{statement}
 use Rattle.call_sheet.proofs.run.run_sheet.Tie as tie
 
@@ -69,17 +68,13 @@ module _ {s : List ℕ} {n : ℕ} {filter kinds numbers : List ℕ} (r : Read s 
   unfolding kindsOf
   size = ap length (r .is-kinds) ∙ length-map (r .sheet .calls) (λ c. kindNumber (c .kind)) ∙ sym (r .count)
 
-  enough : bitsIn (take n kinds) ≤ length numbers
-  enough =
-      let calls = r .sheet .calls in
-      let sizes = sheet-read s refl (r .sheet) (r .is) .calls .sizes in
-      omega (arith, ap bitsIn (r .is-kinds), sizes, ap length (r .is-numbers), length-append (bitsOf calls) (r .others))
+  -- the calls come back
+  back : callsIn (take n kinds) numbers ≡ some (r .sheet .calls)
+  back = (λ i. callsIn (r .is-kinds i) (r .is-numbers i)) ∙ held .back (r .others)
 
-  text : {run : List Float} → run ≡ numbersOf filter → linesOn 1 run (callsIn (take n kinds) numbers) ≡ sheetText s
+  text : {run : List Float} → run ≡ numbersOf filter → linesOf run (callsIn (take n kinds) numbers) ≡ sheetText s
   unfolding sheetText
-  text e =
-      (λ i. linesOn 1 ((e ∙ ap numbersOf (r .is-filter)) i) (callsIn (r .is-kinds i) (r .is-numbers i)))
-      ∙ ap (linesOn 1 (numbersOf (r .sheet .filter))) (held .back (r .others)) ∙ sym (ap textOf (r .is))
+  text e = (λ i. linesOf ((e ∙ ap numbersOf (r .is-filter)) i) (back i)) ∙ sym (ap textOf (r .is))
 
 -- n zeros
 abbrev zeros : ℕ → List ℕ
@@ -116,7 +111,7 @@ run-calls-requires c κs =
     let n = c .before .before .before .before .before .before .before .before .before in
     let sheet = here n in
     let test = n .before .before .before .before .before .before .before .before .before in
-    (enough sheet, omega (arith, size sheet, few sheet, test .if1 .left))
+    (ap isSome (back sheet), omega (arith, size sheet, few sheet, test .if1 .left))
 
 -- the lines of the calls
 returns-2 : tie.Need-returns-2

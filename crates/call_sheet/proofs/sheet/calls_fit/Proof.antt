@@ -1,13 +1,12 @@
 -- `sheet::calls_fit` meets its contract.
 use Prim.Native.Nat.{_+_, _-_, _*_, _≤_}
 use mathlib.Core.Path.{_≡_, refl, sym, ap, _∙_}
-use mathlib.Core.Logic.{⊎-elim}
 use native.Mathlib.Omega.{arith}
 use borrow.Author.Needs.{needs}
-use borrow.Author.Tests.{ltb-true, ltb-false}
-use Rattle.drifters_entry.specs.Entry.{callLength}
+use Rattle.drifters_entry.specs.Kind.{mostCallNumbers, kindOf, found}
+use Rattle.drifters_entry.proofs.KindLaws.{call-most}
 use Rattle.call_sheet.specs.Sheet.{filterEnd, callsAt, isSome}
-use Rattle.call_sheet.proofs.SheetLayout.{call-most, no-calls, calls-step, calls-end}
+use Rattle.call_sheet.proofs.SheetLayout.{no-some, no-calls, calls-step, calls-end}
 use Rattle.call_sheet.proofs.sheet.calls_fit.Statement.{statement}
 use Rattle.call_sheet.proofs.sheet.calls_fit.Tie as tie
 
@@ -22,40 +21,35 @@ abbrev μ-loop : tie.MeasureT-loop
 -- a number of no kind
 returns : tie.Need-returns Inv-loop μ-loop
 returns c =
-    let kind = c .before .u32-at in
-    let turn = c .before .before in
+    let kind = c .before .before in
+    let turn = kind .before .before in
     no-calls _ _ _ _ (turn .loop-test .taken)
-    (λ cs found.
-    ⊎-elim
-    (λ few. omega (arith, found .number, found .range, kind .ensures, few .taken))
-    (λ many. omega (arith, found .number, found .range, kind .ensures, ltb-true 6 (kind .result) (many .1 .taken)))
-    (c .if1 .came))
+    (λ cs next. no-some (sym (ap found (c .enum-told .given .1)) ∙ kind .kind-of .ensures ∙ ap kindOf (kind .before .u32-at .ensures) ∙ next .is-kind))
     ∙ sym (turn .before .loop .inv .3)
 
 -- a body that is not where the one before it ends
 returns-2 : tie.Need-returns-2 Inv-loop μ-loop
 returns-2 c =
-    let turn = c .before .before .before .before .before in
-    no-calls _ _ _ _ (turn .loop-test .taken) (λ cs found. c .if3 .taken (c .before .u32-at2 .ensures ∙ found .offset)) ∙ sym (turn .before .loop .inv .3)
+    let turn = c .before .before .before .before .before .before .before in
+    no-calls _ _ _ _ (turn .loop-test .taken) (λ cs next. c .if1 .taken (c .before .u32-at2 .ensures ∙ next .offset)) ∙ sym (turn .before .loop .inv .3)
 
 -- the call's length is small
-length-most : (c : tie.After-call-length Inv-loop μ-loop) → c .call-length .result ≤ 75
-length-most c = omega (arith, c .call-length .ensures, call-most (c .before .kind-of .result))
+length-most : (c : tie.After-call-length Inv-loop μ-loop) → c .call-length .result ≤ mostCallNumbers
+length-most c = omega (arith, c .call-length .ensures, call-most (c .before .before .before .before .kind .given .0 .0))
 
 loop-again : tie.Need-loop-again Inv-loop μ-loop
 loop-again c =
-    let placed = c .before .before in
-    let tests = placed .before .before in
-    let kind = tests .before .before .u32-at in
-    let turn = tests .before .before .before in
-    let size = c .call-length .ensures ∙ ap callLength (c .before .kind-of .ensures) in
+    let placed = c .before in
+    let known = placed .before .before .before in
+    let kind = known .before .before in
+    let turn = kind .before .before in
+    let found-kind = sym (ap kindOf (kind .before .u32-at .ensures)) ∙ sym (kind .kind-of .ensures) ∙ ap found (known .kind .given .1) in
     let small = length-most c in (
       omega arith,
       omega arith,
       omega arith,
       turn .before .loop .inv .3
-          ∙ calls-step _ _ _ _ (turn .loop-test .taken) (kind .ensures) (tests .before .if1 .left) (ltb-false 6 (kind .result) (tests .if2 .left))
-          (sym (placed .before .u32-at2 .ensures) ∙ placed .if3 .left) size,
+          ∙ calls-step _ _ _ _ (turn .loop-test .taken) found-kind (sym (placed .before .u32-at2 .ensures) ∙ placed .if1 .left) (c .call-length .ensures),
     )
 
 -- all entries are passed
@@ -76,14 +70,16 @@ calls-fit-spec =
     (λ c. omega arith)
     (λ c. omega arith)
     (λ c κs. omega arith)
+    (λ c κs. search needs)
+    (λ c. search needs)
+    (λ c. search needs)
     returns
     (λ c. omega arith)
     (λ c. omega arith)
     (λ c κs. omega arith)
     (λ c. search needs)
     returns-2
-    (λ c κs. tt)
-    (λ c κs. tt)
+    (λ c κs. search needs)
     (λ c. omega (arith, length-most c))
     (λ c. omega (arith, length-most c))
     (λ c. omega arith)
