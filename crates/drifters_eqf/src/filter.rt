@@ -193,13 +193,15 @@ impl EqFilter {
     {
         let gravity = self.gravity;
         let alpha = self.alpha;
+        // Copied so that `self` is not lent: the compiler then drops a copy of the whole filter.
+        let prior = self.sigma;
         let step = Algebra::from_array(delta);
         if !turn_fits(step) {
             return refuse(TURN_REFUSAL, self);
         }
         let change = Symmetry::exp(step);
         let x = change.compose(self.x);
-        let corrected = joseph(&self.sigma.data, kc, noise);
+        let corrected = joseph(&prior.data, kc, noise);
         let mut out = [0.0; 441];
         reset(step, &corrected.data, &mut out);
         symmetrize21(&mut out);

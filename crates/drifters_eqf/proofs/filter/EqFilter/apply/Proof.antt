@@ -19,7 +19,7 @@ returns-2 c =
     let s = c .before .before in
     let j = s .before .before .before .before in
     let x = j .before .before .before in
-    let e = x .before .before .before in
+    let e = x .before .before in
     let t = e .before in
     let turn = rw (t .before .from-array .ensures) at (t .turn-fits .ensures) in
     rw (
@@ -28,7 +28,7 @@ returns-2 c =
       s .reset .ensures,
       j .joseph .ensures,
       x .compose .ensures,
-      x .before .before .exp .ensures,
+      x .before .exp .ensures,
       t .before .from-array .ensures,
     )
 
