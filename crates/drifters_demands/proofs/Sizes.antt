@@ -10,7 +10,7 @@ use Rattle.drifters_matrix.proofs.Matrix.Grid.{length-matrix}
 use Rattle.drifters_lie.specs.Lie.{composeSe23}
 use Rattle.drifters_symmetry.specs.Group.{compose, actState}
 use Rattle.drifters_eqf.specs.Gcu.{definite}
-use Rattle.drifters_eqf.specs.Filter.{turnFits, navState, halfStep, fullStep, propagatedSigma, propagated, propagate, rawFactor, inflatedFactor, gain, correction, updated, update}
+use Rattle.drifters_eqf.specs.Filter.{turnFits, navState, halfStep, fullStep, propagatedSigma, propagated, propagate, rawFactor, inflatedFactor, Correction, step, corrected, applied, update}
 use Rattle.drifters_entry.specs.Layout.{SizedFilter, SizedState}
 use Rattle.drifters_symmetry.specs.declared.group.Symmetry.{Symmetry}
 use Rattle.drifters_symmetry.specs.declared.lift.Input.{Input}
@@ -45,19 +45,18 @@ pub symmetrized-propagated : (f : EqFilter) (u : Input) (dt : Float) (q : Proces
 unfolding propagated propagatedSigma
 symmetrized-propagated f u dt q = (_, refl)
 
-pub symmetrized-updated : (w : ℕ) (f : EqFilter) (k c y noise : List Float) → Symmetrized (updated w f k c y noise .sigma .«data»)
-unfolding updated
-symmetrized-updated w f k c y noise = (_, refl)
+pub symmetrized-corrected : (f : EqFilter) (u : Correction) → Symmetrized (corrected f u .sigma .«data»)
+unfolding corrected
+symmetrized-corrected f u = (_, refl)
 
 pub sized-propagated : (f : EqFilter) (u : Input) (dt : Float) (q : ProcessNoise) → SizedFilter (propagated f u dt q)
 unfolding propagated
 sized-propagated f u dt q =
     record { rotation = compose-rotation _ _; e = compose-e _ _; sigma = length-symmetrized _ (symmetrized-propagated f u dt q) }
 
-pub sized-updated : (w : ℕ) (f : EqFilter) (k c y noise : List Float) → SizedFilter (updated w f k c y noise)
-unfolding updated
-sized-updated w f k c y noise =
-    record { rotation = compose-rotation _ _; e = compose-e _ _; sigma = length-symmetrized _ (symmetrized-updated w f k c y noise) }
+pub sized-corrected : (f : EqFilter) (u : Correction) → SizedFilter (corrected f u)
+unfolding corrected
+sized-corrected f u = record { rotation = compose-rotation _ _; e = compose-e _ _; sigma = length-symmetrized _ (symmetrized-corrected f u) }
 
 -- what one of two tests chooses
 sized-cond : (b : Bool) (a z : Answered) → SizedFilter (a .filter) → SizedFilter (z .filter) → SizedFilter (cond b a z .filter)
@@ -68,12 +67,11 @@ pub sized-propagate : (f : EqFilter) (u : Input) (dt : Float) (q : ProcessNoise)
 unfolding propagate
 sized-propagate f u dt q h = sized-cond (turnFits (halfStep f u dt)) _ _ (sized-cond (turnFits (fullStep f u dt)) _ _ (sized-propagated f u dt q) h) h
 
-pub sized-update : (w : ℕ) (f : EqFilter) (c y noise : List Float) → SizedFilter f → SizedFilter (update w f c y noise .filter)
-unfolding update
-sized-update w f c y noise h =
+pub sized-update : (w : ℕ) (f : EqFilter) (c y noise : List Float) (alpha : Float) → SizedFilter f → SizedFilter (update w f c y noise alpha .filter)
+unfolding update applied
+sized-update w f c y noise alpha h =
     sized-cond (definite (rawFactor w f c noise)) _ _
-    (sized-cond (definite (inflatedFactor w f c y noise)) _ _
-    (sized-cond (turnFits (correction w (gain w f c y noise) y)) _ _ (sized-updated w f (gain w f c y noise) c y noise) h) h) h
+    (sized-cond (definite (inflatedFactor w f c y noise alpha)) _ _ (sized-cond (turnFits (step _)) _ _ (sized-corrected f _) h) h) h
 
 pub sized-navState : (f : EqFilter) → SizedState (navState f)
 unfolding navState actState composeSe23

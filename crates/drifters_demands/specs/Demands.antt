@@ -17,12 +17,13 @@ use Rattle.drifters_real.specs.Real.{isFinite, SqrtNearest, SineBound, CosineBo
 use Rattle.drifters_matrix.specs.Matrix.{allFinite}
 use Rattle.drifters_eqf.specs.Answer.{lengthRefusal, blankRefusal, turnRefusal, pivotRefusal, rangeRefusal, sheetRefusal, numberOf, valuesOf}
 use Rattle.drifters_eqf.specs.Gcu.{definite, entriesOf, nis}
-use Rattle.drifters_eqf.specs.Filter.{turnFits, navState, halfStep, fullStep, propagated, rawFactor, inflatedFactor, gain, correction, updated}
+use Rattle.drifters_eqf.specs.Filter.{turnFits, navState, halfStep, fullStep, propagated, rawFactor, inflatedFactor, gain, correction, step, corrected}
 use Rattle.drifters_eqf.specs.declared.filter.EqFilter.{EqFilter}
 use Rattle.drifters_eqf.specs.declared.filter.Answer.{Answer}
 use Rattle.drifters_eqf.specs.declared.filter.Answer.the-variants.{Nis, Fine, Refused}
-use Rattle.drifters_entry.specs.Layout.{filterLength, sigmaPlace, fromRun, toRun, stateToRun}
-use Rattle.drifters_entry.specs.Entry.{writtenLength, startLength, Request, propagation, measurement, estimate, requestOf, Outcome, lengthsFit, call, started, start}
+use Rattle.drifters_entry.specs.Layout.{filterLength, startLength, sigmaPlace, fromRun, toRun, stateToRun}
+use Rattle.drifters_entry.specs.Kind.{writtenLength}
+use Rattle.drifters_entry.specs.Entry.{Request, refusal, propagation, measurement, estimate, requestOf, Outcome, refused, lengthsFit, call, started, start}
 use Rattle.drifters_entry.specs.Log.{Call, LogEntry, Log, logOf}
 use Rattle.drifters_entry.specs.declared.kind.Kind.{Kind}
 use Rattle.drifters_entry.specs.declared.kind.Kind.the-variants.{State}
@@ -50,26 +51,27 @@ firstOf (c ∷ cs) = cond (c .refuses) (c .number) (firstOf cs)
 
 -- the checks of what is asked of a filter, after length and blank
 abbrev pub laterChecks : Request → EqFilter → List Check
+laterChecks (refusal n) f = unless n false ∷ []
 laterChecks (propagation u dt q) f =
     unless turnRefusal (turnFits (halfStep f u dt))
     ∷ unless turnRefusal (turnFits (fullStep f u dt))
     ∷ unless rangeRefusal (allFinite (toRun (propagated f u dt q)))
     ∷ []
-laterChecks (measurement w m noise) f =
+laterChecks (measurement w m noise alpha) f =
     let c = m .output in
     let y = m .innovation in
-    let k = gain w f c y noise in
+    let u = correction w (gain w f c y noise alpha) c y noise in
     unless pivotRefusal (definite (rawFactor w f c noise))
-    ∷ unless pivotRefusal (definite (inflatedFactor w f c y noise))
-    ∷ unless turnRefusal (turnFits (correction w k y))
-    ∷ unless rangeRefusal (isFinite (nis w (entriesOf (rawFactor w f c noise)) y) && allFinite (toRun (updated w f k c y noise)))
+    ∷ unless pivotRefusal (definite (inflatedFactor w f c y noise alpha))
+    ∷ unless turnRefusal (turnFits (step u))
+    ∷ unless rangeRefusal (isFinite (nis w (entriesOf (rawFactor w f c noise)) y) && allFinite (toRun (corrected f u)))
     ∷ []
 laterChecks estimate f = unless rangeRefusal (allFinite (stateToRun (navState f))) ∷ []
 
 -- the checks of a call, in document 01's order
 abbrev pub checks : Kind → List Float → List Float → List Float → List Check
 checks kind run v written =
-    unless lengthRefusal (lengthsFit kind run v written)
+    unless lengthRefusal (lengthsFit kind run v (length written))
     ∷ unless blankRefusal (allFinite run && allFinite v)
     ∷ laterChecks (requestOf kind (fromRun run) v) (fromRun run)
 
@@ -118,25 +120,27 @@ pub record Demand1 : Type 0 where
 
 -- ---- demand 2: an accepted call gives the definition's bits, each operation rounded by IEEE 754
 
--- what is asked of a filter, done: an update answers its normalised innovation squared, an estimate leaves the filter as it was
-abbrev pub done : Request → EqFilter → List Float → List Float → Outcome
-done (propagation u dt q) f run written = record { answer = Fine; run = toRun (propagated f u dt q); written = written }
-done (measurement w m noise) f run written =
+-- what comes of what is asked of a filter, where it is accepted: an update answers its normalised innovation squared, an estimate leaves the filter
+-- as it was; a refusal of its own is never accepted
+abbrev pub acceptedOutcome : Request → EqFilter → List Float → List Float → Outcome
+acceptedOutcome (refusal n) f run written = refused n run written
+acceptedOutcome (propagation u dt q) f run written = record { answer = Fine; run = toRun (propagated f u dt q); written = written }
+acceptedOutcome (measurement w m noise alpha) f run written =
     let c = m .output in
     let y = m .innovation in
     record {
       answer = Nis (nis w (entriesOf (rawFactor w f c noise)) y);
-      run = toRun (updated w f (gain w f c y noise) c y noise);
+      run = toRun (corrected f (correction w (gain w f c y noise alpha) c y noise));
       written = written;
     }
-done estimate f run written = record { answer = Fine; run = run; written = stateToRun (navState f) }
+acceptedOutcome estimate f run written = record { answer = Fine; run = run; written = stateToRun (navState f) }
 
--- An accepted call is what is asked, done, and so is a start; a sheet prints the lines of the entries of its log; the square root is the nearest
+-- An accepted call comes to what it asks for, and so does a start; a sheet prints the lines of the entries of its log; the square root is the nearest
 -- f64; sine and cosine keep their bounds.
 pub record Demand2 : Type 0 where
   pub calls :
       (kind : Kind) (run v written : List Float) → firstOf (checks kind run v written) ≡ 0
-      → call kind run v written ≡ done (requestOf kind (fromRun run) v) (fromRun run) run written
+      → call kind run v written ≡ acceptedOutcome (requestOf kind (fromRun run) v) (fromRun run) run written
   pub starts : (run v : List Float) → firstOf (startChecks run v) ≡ 0 → start run v ≡ record { answer = Fine; run = started v; written = [] }
   pub sheets :
       (s : List ℕ) (sheet : Sheet) → readSheet s ≡ some sheet

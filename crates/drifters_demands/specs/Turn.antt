@@ -6,7 +6,7 @@ use lib.Dec.{ltb}
 use lib.ListN.{length, getD}
 use lib.Ieee.{Float, nan, unlike}
 use Rattle.drifters_matrix.specs.Matrix.{tab}
-use Rattle.drifters_entry.specs.Entry.{callLength}
+use Rattle.drifters_entry.specs.Kind.{callLength}
 use Rattle.drifters_entry.specs.Log.{Call, LogEntry, Log}
 use Rattle.drifters_entry.specs.declared.kind.Kind.{Kind}
 use Rattle.drifters_entry.specs.declared.kind.Kind.the-variants.{Propagate, Position, Velocity, Direction, General, State}

@@ -24,10 +24,18 @@ writtenBy (propagation u dt q) = 0
 writtenBy (measurement w m noise alpha) = 0
 writtenBy estimate = stateLength
 
--- a kind is found by its number, what its calls ask writes as many numbers as its calls do, and only the calls of `State` ask for the estimate
+-- a refusal of its own has a number
+abbrev pub Numbered : Request → Type 0
+Numbered (refusal n) = n ≡ 0 → ⊥
+Numbered (propagation u dt q) = Unit
+Numbered (measurement w m noise alpha) = Unit
+Numbered estimate = Unit
+
+-- a kind is found by its number, what its calls ask writes as many numbers as its calls do, its own refusals have numbers, and only the calls of `State` ask for the estimate
 pub record KindLaws (kind : Kind) : Type 0 where
   pub found : kindOf (kindNumber kind) ≡ some kind
   pub writes : (f : EqFilter) (v : List Float) → writtenLength kind ≡ writtenBy (requestOf kind f v)
+  pub own : (f : EqFilter) (v : List Float) → Numbered (requestOf kind f v)
   pub asks : (f : EqFilter) (v : List Float) → requestOf kind f v ≡ estimate → kind ≡ State
 
 -- whether what is asked is the estimate
@@ -42,12 +50,12 @@ never e = absurd (false≢true e)
 
 pub kind-laws : (kind : Kind) → KindLaws kind
 unfolding findKind
-kind-laws Propagate = record { found = refl; writes = λ f v. refl; asks = λ f v e. never (ap isEstimate e) }
-kind-laws Position = record { found = refl; writes = λ f v. refl; asks = λ f v e. never (ap isEstimate e) }
-kind-laws Velocity = record { found = refl; writes = λ f v. refl; asks = λ f v e. never (ap isEstimate e) }
-kind-laws Direction = record { found = refl; writes = λ f v. refl; asks = λ f v e. never (ap isEstimate e) }
-kind-laws General = record { found = refl; writes = λ f v. refl; asks = λ f v e. never (ap isEstimate e) }
-kind-laws State = record { found = refl; writes = λ f v. refl; asks = λ f v e. refl }
+kind-laws Propagate = record { found = refl; writes = λ f v. refl; own = λ f v. tt; asks = λ f v e. never (ap isEstimate e) }
+kind-laws Position = record { found = refl; writes = λ f v. refl; own = λ f v. tt; asks = λ f v e. never (ap isEstimate e) }
+kind-laws Velocity = record { found = refl; writes = λ f v. refl; own = λ f v. tt; asks = λ f v e. never (ap isEstimate e) }
+kind-laws Direction = record { found = refl; writes = λ f v. refl; own = λ f v. tt; asks = λ f v e. never (ap isEstimate e) }
+kind-laws General = record { found = refl; writes = λ f v. refl; own = λ f v. tt; asks = λ f v e. never (ap isEstimate e) }
+kind-laws State = record { found = refl; writes = λ f v. refl; own = λ f v. tt; asks = λ f v e. refl }
 
 -- ---- a kind by its number
 

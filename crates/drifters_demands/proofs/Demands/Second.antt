@@ -1,4 +1,4 @@
--- Demand 2, as far as it speaks of definitions: accepted calls are what is asked, done; the root is the nearest, sine and cosine keep their
+-- Demand 2, as far as it speaks of definitions: accepted calls come to what they ask for; the root is the nearest, sine and cosine keep their
 -- bounds. Assumes nothing.
 use Prim.Native.Nat.{ℕ}
 use mathlib.Core.Path.{_≡_, ap}

@@ -1,5 +1,5 @@
 -- Demand 3: any two logs, the second read through a half turn, are equal exactly when their first filters and calls are. Assumes nothing.
-use mathlib.Core.Path.{_≡_, sym, subst}
+use mathlib.Core.Path.{_≡_, sym, _∙_, subst}
 use mathlib.Core.List.{List, [], _∷_, map, Forall₂, Forall₂·nil, Forall₂·cons}
 use Prim.Native.Nat.{ℕ}
 use borrow.Author.Tests.{lt-ltb}
@@ -9,36 +9,37 @@ use Rattle.drifters_real.specs.Scalar.{plusZero}
 use Rattle.drifters_matrix.specs.Matrix.{zeros}
 use Rattle.drifters_eqf.specs.Filter.{navState}
 use Rattle.drifters_entry.specs.Layout.{fromRun}
-use Rattle.drifters_entry.specs.Entry.{callLength, writtenLength, Outcome, call}
+use Rattle.drifters_entry.specs.Kind.{callLength, writtenLength}
+use Rattle.drifters_entry.specs.Entry.{Request, refusal, propagation, measurement, estimate, requestOf, Outcome, call}
 use Rattle.drifters_entry.specs.Log.{Call, outcomeOn, entriesFrom}
 use Rattle.drifters_entry.specs.declared.kind.Kind.{Kind}
-use Rattle.drifters_entry.specs.declared.kind.Kind.the-variants.{Propagate, Position, Velocity, Direction, General, State}
+use Rattle.drifters_entry.proofs.KindLaws.{writtenBy, kind-laws}
+use Rattle.drifters_eqf.specs.declared.filter.EqFilter.{EqFilter}
 use Rattle.drifters_entry.proofs.RoundTrips.{length-stateToRun}
 use Rattle.drifters_demands.specs.Like.{Signs}
 use Rattle.drifters_demands.specs.Turn.{filterSigns, turnCall, turnEntry}
-use Rattle.drifters_demands.specs.Demands.{EqualCall, EqualEntry, Demand3}
+use Rattle.drifters_demands.specs.Demands.{acceptedOutcome, EqualCall, EqualEntry, Demand3}
 use Rattle.drifters_demands.proofs.Sizes.{sized-navState}
 use Rattle.drifters_demands.proofs.Signs.Layout.{Turned}
 use Rattle.drifters_demands.proofs.Signs.Entry.{LikeOutcome, turned-zeros, like-call}
-use Rattle.drifters_demands.proofs.Demands.Decision.{Decision, refuses, accepts, doneBy, call-decision}
+use Rattle.drifters_demands.proofs.Demands.Decision.{Decision, refuses, accepts, acceptedCall, call-decision}
 use Rattle.drifters_demands.proofs.Demands.Equality.{turned-equal, equal-turned, equal-answer}
 
 -- ---- how many numbers a call of a log writes
 length-zeros : (n : ℕ) → length (zeros n) ≡ n
 length-zeros n = length-replicate n plusZero
 
-done-size : (kind : Kind) (run v : List Float) → length (doneBy kind run v (zeros (writtenLength kind)) .written) ≡ writtenLength kind
-done-size Propagate run v = length-zeros 0
-done-size Position run v = length-zeros 0
-done-size Velocity run v = length-zeros 0
-done-size Direction run v = length-zeros 0
-done-size General run v = length-zeros 0
-done-size State run v = length-stateToRun (navState (fromRun run)) (sized-navState (fromRun run))
+accepted-size : (r : Request) (f : EqFilter) (run : List Float) (n : ℕ) → n ≡ writtenBy r → length (acceptedOutcome r f run (zeros n) .written) ≡ n
+accepted-size (refusal k) f run n e = length-zeros n
+accepted-size (propagation u dt q) f run n e = length-zeros n
+accepted-size (measurement w m noise alpha) f run n e = length-zeros n
+accepted-size estimate f run n e = length-stateToRun (navState f) (sized-navState f) ∙ sym e
 
 decided-size : (kind : Kind) (run v : List Float) {first : ℕ} {o : Outcome}
-    → Decision run (zeros (writtenLength kind)) (doneBy kind run v (zeros (writtenLength kind))) first o → length (o .written) ≡ writtenLength kind
+    → Decision run (zeros (writtenLength kind)) (acceptedCall kind run v (zeros (writtenLength kind))) first o → length (o .written) ≡ writtenLength kind
 decided-size kind run v (refuses n) = length-zeros (writtenLength kind)
-decided-size kind run v (accepts h e) = done-size kind run v
+decided-size kind run v (accepts h e) =
+    accepted-size (requestOf kind (fromRun run) v) (fromRun run) run (writtenLength kind) (kind-laws kind .writes (fromRun run) v)
 
 written-size : (run : List Float) (c : Call) → length (outcomeOn run c .written) ≡ writtenLength (c .kind)
 written-size run c = decided-size (c .kind) run (c .numbers) (call-decision (c .kind) run (c .numbers) (zeros (writtenLength (c .kind))))

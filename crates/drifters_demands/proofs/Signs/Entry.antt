@@ -18,9 +18,9 @@ use Rattle.drifters_demands.proofs.Signs.Matrix.{like-allFinite-list}
 use Rattle.drifters_eqf.specs.Answer.{lengthRefusal, blankRefusal, rangeRefusal, valuesOf}
 use Rattle.drifters_lie.specs.Lie.{vec3At}
 use Rattle.drifters_covariance.specs.Covariance.{inputAt}
-use Rattle.drifters_eqf.specs.Filter.{update, Measurement}
 use Rattle.drifters_entry.specs.Layout.{filterLength, part, fromRun, toRun, stateToRun, SizedFilter, SizedState}
-use Rattle.drifters_entry.specs.Entry.{callLength, writtenLength, processNoiseAt, requestOf, Outcome, outcomeOf, performed, refused, finiteOutcome, ifFinite, settledAs, settled, lengthsFit, call}
+use Rattle.drifters_entry.specs.Kind.{callLength, writtenLength}
+use Rattle.drifters_entry.specs.Entry.{Request, processNoiseAt, requestOf, Outcome, outcomeOf, performed, refused, finiteOutcome, ifFinite, rangeCheckedAs, rangeChecked, lengthsFit, call}
 use Rattle.drifters_demands.specs.Turn.{plain, thenSigns, matrixSigns, noiseSigns, filterSigns, callSigns, stateSigns}
 use Rattle.drifters_symmetry.specs.declared.group.State.{State as StateRecord}
 use Rattle.drifters_eqf.specs.declared.filter.EqFilter.{EqFilter}
@@ -31,7 +31,7 @@ use Rattle.drifters_entry.specs.declared.kind.Kind.the-variants.{Propagate, Pos
 use Rattle.drifters_entry.proofs.RoundTrips.{roundTrips, length-toRun, length-stateToRun, sized-fromRun}
 use Rattle.drifters_demands.proofs.Sizes.{sized-propagate, sized-update, sized-navState}
 use Rattle.drifters_demands.proofs.Signs.GroupRecords.{LikeState, LikeInput}
-use Rattle.drifters_demands.proofs.Signs.FilterRecords.{LikeProcessNoise, LikeFilter, LikeAnswer, both-nis, both-fine, both-refused, LikeAnswered, LikeMeasurement}
+use Rattle.drifters_demands.proofs.Signs.FilterRecords.{LikeProcessNoise, LikeFilter, LikeAnswer, both-nis, both-fine, both-refused, LikeAnswered, LikeMeasurement, LikeRequest, like-refusal, like-propagation, like-measurement, like-estimate}
 use Rattle.drifters_demands.proofs.Signs.Filter.{like-navState, like-propagate, like-update, like-measuredPosition, like-measuredVelocity, like-measuredDirection}
 use Rattle.drifters_demands.proofs.Signs.Layout.{Turned, like-first, like-rest, like-part, like-fromRun, like-of-fromRun, like-of-stateFromRun}
 
@@ -90,14 +90,14 @@ module _ {s : Signs} {written written' : List Float} (W : Turned (stateSigns s) 
     like-ifFinite : LikeOutcome s (ifFinite o run written) (ifFinite p run' written')
     like-ifFinite = cond-keeps (LikeOutcome s) (like-finiteOutcome h) (λ e. h) (λ e. like-refused rangeRefusal r)
 
-    like-settledAs : {a b : Answer} → LikeAnswer a b → LikeOutcome s (settledAs a o run written) (settledAs b p run' written')
-    like-settledAs (both-nis x) = like-ifFinite
-    like-settledAs both-fine = like-ifFinite
-    like-settledAs (both-refused {n}) = like-refused n r
+    like-rangeCheckedAs : {a b : Answer} → LikeAnswer a b → LikeOutcome s (rangeCheckedAs a o run written) (rangeCheckedAs b p run' written')
+    like-rangeCheckedAs (both-nis x) = like-ifFinite
+    like-rangeCheckedAs both-fine = like-ifFinite
+    like-rangeCheckedAs (both-refused {n}) = like-refused n r
 
-    like-settled : LikeOutcome s (settled o run written) (settled p run' written')
-    unfolding settled
-    like-settled = like-settledAs (h .answer)
+    like-rangeChecked : LikeOutcome s (rangeChecked o run written) (rangeChecked p run' written')
+    unfolding rangeChecked
+    like-rangeChecked = like-rangeCheckedAs (h .answer)
 
   like-outcomeOf : {a z : Answered} → LikeAnswered s noTurn noTurn a z → SizedFilter (a .filter) → SizedFilter (z .filter)
       → LikeOutcome s (outcomeOf a written) (outcomeOf z written')
@@ -132,7 +132,7 @@ module _ {s : Signs} {v w : List Float} where
       (like-part (axis s) (axis s) 3 3 (like-rest 3 9 τ (noiseSigns s) (like-rest 3 12 σ (thenSigns 3 τ (noiseSigns s)) h)))
 
   like-general : LikeList (callSigns General s) 75 v w
-      → LikeMeasurement s (record { output = part v 0 63; innovation = part v 63 3 }) (record { output = part w 0 63; innovation = part w 63 3 })
+      → LikeMeasurement (axis s) s 3 (record { output = part v 0 63; innovation = part v 63 3 }) (record { output = part w 0 63; innovation = part w 63 3 })
   like-general h = record {
     output = like-part (axis s) (axis s) 3 21 (like-first 63 12 (matrixSigns 21 (axis s) (axis s)) (thenSigns 3 (axis s) (noiseSigns s)) h);
     innovation = like-take (like-first 3 9 (axis s) (noiseSigns s) (like-rest 63 12 (matrixSigns 21 (axis s) (axis s)) (thenSigns 3 (axis s) (noiseSigns s)) h));
@@ -144,36 +144,41 @@ module _ {s : Signs} {v w : List Float} where
       (like-part (axis s) (axis s) 3 3
       (like-rest 3 9 (axis s) (noiseSigns s) (like-rest 63 12 (matrixSigns 21 (axis s) (axis s)) (thenSigns 3 (axis s) (noiseSigns s)) h)))
 
--- ---- what a call asks, done
-module _ {s : Signs} {f g : EqFilter} (F : LikeFilter s noTurn noTurn f g) (A : SizedFilter f) (B : SizedFilter g) (run run' : List Float)
-    (R : Turned (filterSigns s) run run') {written written' : List Float} (W : Turned (stateSigns s) written written') where
-  like-measured : {m n : Measurement} {noise noise' : List Float} → LikeMeasurement s m n → LikeMatrix (axis s) (axis s) 3 3 noise noise'
-      → LikeOutcome s (outcomeOf (update 3 f (m .output) (m .innovation) noise) written) (outcomeOf (update 3 g (n .output) (n .innovation) noise') written')
-  like-measured {m} {n} {noise} {noise'} M N =
-      like-outcomeOf W (like-update F (M .output) (M .innovation) N)
-      (sized-update 3 f (m .output) (m .innovation) noise A) (sized-update 3 g (n .output) (n .innovation) noise' B)
+-- ---- what a call asks
 
-  like-performed : (kind : Kind) {v w : List Float} → LikeList (callSigns kind s) (callLength kind) v w
-      → LikeOutcome s (performed (requestOf kind f v) f run written) (performed (requestOf kind g w) g run' written')
-  unfolding performed
-  like-performed Propagate {v} {w} h =
-      like-outcomeOf W (like-propagate F (like-inputAt h) (h .entry 6 (lit< tt)) (like-processNoiseAt h))
-      (sized-propagate f (inputAt v 0) (getD v 6 nan) (processNoiseAt v 7) A) (sized-propagate g (inputAt w 0) (getD w 6 nan) (processNoiseAt w 7) B)
-  like-performed Position h =
-      like-measured (like-measuredPosition F record { x = h .entry 0 (lit< tt); y = h .entry 1 (lit< tt); z = h .entry 2 (lit< tt) })
-      (like-noise (like-rest 3 9 (axis s) (noiseSigns s) h))
-  like-performed Velocity h =
-      like-measured
-      (like-measuredVelocity F record { x = h .entry 0 (lit< tt); y = h .entry 1 (lit< tt); z = h .entry 2 (lit< tt) }
-      record { x = h .entry 3 (lit< tt); y = h .entry 4 (lit< tt); z = h .entry 5 (lit< tt) })
-      (noise-after-six (axis s) plain h)
-  like-performed Direction h =
-      like-measured
-      (like-measuredDirection F record { x = h .entry 0 (lit< tt); y = h .entry 1 (lit< tt); z = h .entry 2 (lit< tt) }
-      record { x = h .entry 3 (lit< tt); y = h .entry 4 (lit< tt); z = h .entry 5 (lit< tt) })
-      (noise-after-six plain (axis s) h)
-  like-performed General h = like-measured (like-general h) (noise-general h)
-  like-performed State h = record { answer = both-fine; written = stateToRun-turned (like-navState F) (sized-navState f) (sized-navState g); run = R }
+-- a kind's numbers that take its signs ask for what is alike
+like-request : {s : Signs} {f g : EqFilter} → LikeFilter s noTurn noTurn f g → (kind : Kind) {v w : List Float} → LikeList (callSigns kind s) (callLength kind) v w
+    → LikeRequest s (requestOf kind f v) (requestOf kind g w)
+like-request F Propagate h = like-propagation (like-inputAt h) (h .entry 6 (lit< tt)) (like-processNoiseAt h)
+like-request {s} F Position h =
+    like-measurement (like-measuredPosition F record { x = h .entry 0 (lit< tt); y = h .entry 1 (lit< tt); z = h .entry 2 (lit< tt) })
+    (like-noise (like-rest 3 9 (axis s) (noiseSigns s) h)) (F .alpha)
+like-request {s} F Velocity h =
+    like-measurement
+    (like-measuredVelocity F record { x = h .entry 0 (lit< tt); y = h .entry 1 (lit< tt); z = h .entry 2 (lit< tt) }
+    record { x = h .entry 3 (lit< tt); y = h .entry 4 (lit< tt); z = h .entry 5 (lit< tt) })
+    (noise-after-six (axis s) plain h) (F .alpha)
+like-request {s} F Direction h =
+    like-measurement
+    (like-measuredDirection F record { x = h .entry 0 (lit< tt); y = h .entry 1 (lit< tt); z = h .entry 2 (lit< tt) }
+    record { x = h .entry 3 (lit< tt); y = h .entry 4 (lit< tt); z = h .entry 5 (lit< tt) })
+    (noise-after-six plain (axis s) h) (F .alpha)
+like-request F General h = like-measurement (like-general h) (noise-general h) (F .alpha)
+like-request F State h = like-estimate
+
+-- what is alike asked comes to what is alike
+like-performed : {s : Signs} {f g : EqFilter} {r q : Request} {run run' written written' : List Float} → LikeFilter s noTurn noTurn f g → SizedFilter f → SizedFilter g
+    → Turned (filterSigns s) run run' → Turned (stateSigns s) written written' → LikeRequest s r q
+    → LikeOutcome s (performed r f run written) (performed q g run' written')
+unfolding performed
+like-performed F A B R W (like-refusal {n}) = like-refused W n R
+like-performed {f = f} {g = g} F A B R W (like-propagation {u} {v} {t} {r} {p} {q} U T Q) =
+    like-outcomeOf W (like-propagate F U T Q) (sized-propagate f u t p A) (sized-propagate g v r q B)
+like-performed {f = f} {g = g} F A B R W (like-measurement {w = w} {z} {y} {noise} {noise'} {a} {b} M N alpha) =
+    like-outcomeOf W (like-update F (M .output) (M .innovation) N alpha)
+    (sized-update w f (z .output) (z .innovation) noise a A) (sized-update w g (y .output) (y .innovation) noise' b B)
+like-performed {f = f} {g = g} F A B R W like-estimate =
+    record { answer = both-fine; written = stateToRun-turned (like-navState F) (sized-navState f) (sized-navState g); run = R }
 
 -- ---- the call
 -- whatever the signs past the numbers that the kind has: a call with more is refused
@@ -185,14 +190,14 @@ like-call {s} {σ} {run} {run'} {v} {w} {written} {written'} kind agrees R N W =
     cond-keeps (LikeOutcome s) fits
     (λ e.
     cond-keeps (LikeOutcome s) (ap₂ _&&_ (turned-finite R) (turned-finite N))
-    (λ finite. like-settled W (done (lengths e)) R)
+    (λ finite. like-rangeChecked W (result (lengths e)) R)
     (λ blank. like-refused W blankRefusal R))
     (λ e. like-refused W lengthRefusal R)
   where
-    fits : lengthsFit kind run v written ≡ lengthsFit kind run' w written'
+    fits : lengthsFit kind run v (length written) ≡ lengthsFit kind run' w (length written')
     fits = λ i. eqb (R .size i) filterLength && eqb (N .size i) (callLength kind) && eqb (W .size i) (writtenLength kind)
 
-    lengths : lengthsFit kind run v written ≡ true → (length run ≡ filterLength) × (length v ≡ callLength kind)
+    lengths : lengthsFit kind run v (length written) ≡ true → (length run ≡ filterLength) × (length v ≡ callLength kind)
     lengths e =
         let p = eqb (length run) filterLength in
         let q = eqb (length v) (callLength kind) in
@@ -205,10 +210,9 @@ like-call {s} {σ} {run} {run'} {v} {w} {written} {written'} kind agrees R N W =
       entry = λ i I. like-as (agrees i I) (N .alike .entry i (rw e I));
     }
 
-    done : (length run ≡ filterLength) × (length v ≡ callLength kind)
+    result : (length run ≡ filterLength) × (length v ≡ callLength kind)
         → LikeOutcome s (performed (requestOf kind (fromRun run) v) (fromRun run) run written)
         (performed (requestOf kind (fromRun run') w) (fromRun run') run' written')
-    done e =
-        like-performed (like-fromRun s (subst (λ (n : ℕ). LikeList (filterSigns s) n run run') (e .0) (R .alike)))
-        (sized-fromRun run (e .0)) (sized-fromRun run' (sym (R .size) ∙ e .0)) run run' R W
-        kind (numbers (e .1))
+    result e =
+        let F = like-fromRun s (subst (λ (n : ℕ). LikeList (filterSigns s) n run run') (e .0) (R .alike)) in
+        like-performed F (sized-fromRun run (e .0)) (sized-fromRun run' (sym (R .size) ∙ e .0)) R W (like-request F kind (numbers (e .1)))

@@ -20,7 +20,7 @@ use Rattle.drifters_demands.proofs.Signs.Numeral.{scaled-of, negMatrix-
 use Rattle.drifters_symmetry.specs.Group.{toArray21}
 use Rattle.drifters_symmetry.specs.Lift.{lift}
 use Rattle.drifters_covariance.specs.Covariance.{transition, inputColumn, biasColumn, noiseMap, psd, processNoise, joseph, resetSigma}
-use Rattle.drifters_eqf.specs.Filter.{turnFits, refuse, navState, halfStep, midpoint, fullStep, propagatedSigma, propagated, propagate, projected, rawFactor, inflatedFactor, gain, correction, updated, update, measuredPosition, measuredVelocity, measuredDirection}
+use Rattle.drifters_eqf.specs.Filter.{turnFits, refuse, navState, halfStep, midpoint, fullStep, propagatedSigma, propagated, propagate, projected, rawFactor, inflatedFactor, gain, Correction, correction, step, corrected, applied, update, measuredPosition, measuredVelocity, measuredDirection}
 use Rattle.drifters_lie.specs.declared.lie.Se3Tangent.{Se3Tangent}
 use Rattle.drifters_symmetry.specs.declared.group.Symmetry.{Symmetry}
 use Rattle.drifters_symmetry.specs.declared.group.Algebra.{Algebra}
@@ -156,26 +156,36 @@ module _ {s b m : Signs} {σ : ℕ → Bool} {w : ℕ} {f f' : EqFilter} {c c' :
   unfolding rawFactor
   like-rawFactor N = like-cholesky (like-addMatrix like-projected N)
 
-  module _ {y y' noise noise' : List Float} (Y : LikeList σ w y y') (N : LikeMatrix σ σ w w noise noise') where
-    pub like-inflatedFactor : LikeFactor σ w w (inflatedFactor w f c y noise) (inflatedFactor w f' c' y' noise')
+  module _ {y y' noise noise' : List Float} {alpha alpha' : Float} (Y : LikeList σ w y y') (N : LikeMatrix σ σ w w noise noise') (A : Like false alpha alpha') where
+    pub like-inflatedFactor : LikeFactor σ w w (inflatedFactor w f c y noise alpha) (inflatedFactor w f' c' y' noise' alpha')
     unfolding inflatedFactor
-    like-inflatedFactor = like-cholesky (like-inflate Y like-projected N (F .alpha))
+    like-inflatedFactor = like-cholesky (like-inflate Y like-projected N A)
 
-    pub like-gain : LikeMatrix (axis s) σ 21 w (gain w f c y noise) (gain w f' c' y' noise')
+    pub like-gain : LikeMatrix (axis s) σ 21 w (gain w f c y noise alpha) (gain w f' c' y' noise' alpha')
     unfolding gain
     like-gain = like-transpose (like-solve (like-entriesOf like-inflatedFactor) (like-matmul C (F .sigma)))
 
-pub like-correction : {s : Signs} {σ : ℕ → Bool} {w : ℕ} {k k' y y' : List Float} → LikeMatrix (axis s) σ 21 w k k' → LikeList σ w y y'
-    → LikeAlgebra s s (correction w k y) (correction w k' y')
-unfolding correction
-like-correction K Y = like-fromArray21 (like-of-column (like-matmul K (like-column Y)))
+-- two corrections are alike in the reference frame, whatever the width that they come from
+pub record LikeCorrection (s : Signs) (u u' : Correction) : Type 0 where
+  pub delta : LikeList (axis s) 21 (u .delta) (u' .delta)
+  pub kc : LikeMatrix (axis s) (axis s) 21 21 (u .kc) (u' .kc)
+  pub noise : LikeMatrix (axis s) (axis s) 21 21 (u .noise) (u' .noise)
 
-pub like-joseph : {τ σ : ℕ → Bool} {w : ℕ} {sigma sigma' k k' c c' noise noise' : List Float} → LikeMatrix τ τ 21 21 sigma sigma' → LikeMatrix τ σ 21 w k k'
-    → LikeMatrix σ τ w 21 c c' → LikeMatrix σ σ w w noise noise' → LikeMatrix τ τ 21 21 (joseph w sigma k c noise) (joseph w sigma' k' c' noise')
+pub like-correction : {s : Signs} {σ : ℕ → Bool} {w : ℕ} {k k' c c' y y' noise noise' : List Float} → LikeMatrix (axis s) σ 21 w k k' → LikeMatrix σ (axis s) w 21 c c'
+    → LikeList σ w y y' → LikeMatrix σ σ w w noise noise' → LikeCorrection s (correction w k c y noise) (correction w k' c' y' noise')
+unfolding correction
+like-correction K C Y N = record {
+  delta = like-of-column (like-matmul K (like-column Y));
+  kc = like-matmul K C;
+  noise = like-mulTranspose (like-matmul K N) K;
+}
+
+pub like-joseph : {τ : ℕ → Bool} {sigma sigma' kc kc' noise noise' : List Float} → LikeMatrix τ τ 21 21 sigma sigma' → LikeMatrix τ τ 21 21 kc kc'
+    → LikeMatrix τ τ 21 21 noise noise' → LikeMatrix τ τ 21 21 (joseph sigma kc noise) (joseph sigma' kc' noise')
 unfolding joseph
-like-joseph S K C N =
-    let ikc = subMatrix-of like-identity refl (like-matmul K C) in
-    addMatrix-of (like-mulTranspose (like-matmul ikc S) ikc) refl (like-mulTranspose (like-matmul K N) K)
+like-joseph S K N =
+    let ikc = subMatrix-of like-identity refl K in
+    addMatrix-of (like-mulTranspose (like-matmul ikc S) ikc) refl N
 
 pub like-resetSigma : {s : Signs} {u u' : Algebra} {sigma sigma' : List Float} → LikeAlgebra s s u u' → LikeMatrix (axis s) (axis s) 21 21 sigma sigma'
     → LikeMatrix (axis s) (axis s) 21 21 (resetSigma u sigma) (resetSigma u' sigma')
@@ -184,47 +194,54 @@ like-resetSigma h S =
     let reset = addMatrix-of like-identity refl (scaled-of (like-ad h) refl like-refl) in
     like-mulTranspose (like-matmul reset S) reset
 
-module _ {s b m : Signs} {σ : ℕ → Bool} {w : ℕ} {f f' : EqFilter} {c c' y y' noise noise' : List Float}
-    (F : LikeFilter s b m f f') (C : LikeMatrix σ (axis s) w 21 c c') (Y : LikeList σ w y y') (N : LikeMatrix σ σ w w noise noise') where
-  pub like-updated : {k k' : List Float} → LikeMatrix (axis s) σ 21 w k k' → LikeFilter s b m (updated w f k c y noise) (updated w f' k' c' y' noise')
-  unfolding updated
-  like-updated K = record {
-    x = like-compose (like-exp (like-correction K Y)) (F .x);
-    sigma = like-symmetrize (like-resetSigma (like-correction K Y) (like-joseph (F .sigma) K C N));
+module _ {s b m : Signs} {f f' : EqFilter} {u u' : Correction} (F : LikeFilter s b m f f') (U : LikeCorrection s u u') where
+  pub like-step : LikeAlgebra s s (step u) (step u')
+  unfolding step
+  like-step = like-fromArray21 (U .delta)
+
+  pub like-corrected : LikeFilter s b m (corrected f u) (corrected f' u')
+  unfolding corrected
+  like-corrected = record {
+    x = like-compose (like-exp like-step) (F .x);
+    sigma = like-symmetrize (like-resetSigma like-step (like-joseph (F .sigma) (U .kc) (U .noise)));
     gravity = F .gravity;
     alpha = F .alpha;
   }
 
-  pub like-update : LikeAnswered s b m (update w f c y noise) (update w f' c' y' noise')
-  unfolding update
-  like-update =
-      cond-keeps (LikeAnswered s b m) (like-definite (like-rawFactor F C N))
-      (λ e.
-      cond-keeps (LikeAnswered s b m) (like-definite (like-inflatedFactor F C Y N))
-      (λ e.
-      cond-keeps (LikeAnswered s b m) (like-turnFits (like-correction (like-gain F C Y N) Y))
-      (λ e. record { answer = both-nis (like-nis (like-entriesOf (like-rawFactor F C N)) Y); filter = like-updated (like-gain F C Y N) })
-      (λ e. like-refuse F))
-      (λ e. like-refuse F))
-      (λ e. like-refuse F)
+  pub like-applied : {r r' : Float} → Like false r r' → LikeAnswered s b m (applied f r u) (applied f' r' u')
+  unfolding applied
+  like-applied h =
+      cond-keeps (LikeAnswered s b m) (like-turnFits like-step) (λ e. record { answer = both-nis h; filter = like-corrected }) (λ e. like-refuse F)
+
+pub like-update : {s b m : Signs} {σ : ℕ → Bool} {w : ℕ} {f f' : EqFilter} {c c' y y' noise noise' : List Float} {alpha alpha' : Float}
+    → LikeFilter s b m f f' → LikeMatrix σ (axis s) w 21 c c' → LikeList σ w y y' → LikeMatrix σ σ w w noise noise' → Like false alpha alpha'
+    → LikeAnswered s b m (update w f c y noise alpha) (update w f' c' y' noise' alpha')
+unfolding update
+like-update {s} {b} {m} F C Y N A =
+    cond-keeps (LikeAnswered s b m) (like-definite (like-rawFactor F C N))
+    (λ e.
+    cond-keeps (LikeAnswered s b m) (like-definite (like-inflatedFactor F C Y N A))
+    (λ e. like-applied F (like-correction (like-gain F C Y N A) C Y N) (like-nis (like-entriesOf (like-rawFactor F C N)) Y))
+    (λ e. like-refuse F))
+    (λ e. like-refuse F)
 
 -- ---- what is measured
 module _ {s b m : Signs} {f f' : EqFilter} (F : LikeFilter s b m f f') where
-  pub like-measuredPosition : {antenna antenna' : Vec3} → LikeVec3 (axis s) antenna antenna' → LikeMeasurement s (measuredPosition f antenna) (measuredPosition f' antenna')
+  pub like-measuredPosition : {antenna antenna' : Vec3} → LikeVec3 (axis s) antenna antenna' → LikeMeasurement (axis s) s 3 (measuredPosition f antenna) (measuredPosition f' antenna')
   unfolding measuredPosition
   like-measuredPosition h =
       let transported = like-transportedPosition (F .x) in
       record { output = like-positionOutputMatrix h transported; innovation = like-toArray (like-subVec3 transported h) }
 
   pub like-measuredVelocity : {antenna antenna' omega omega' : Vec3} → LikeVec3 (axis s) antenna antenna' → LikeVec3 (axis b) omega omega'
-      → LikeMeasurement s (measuredVelocity f antenna omega) (measuredVelocity f' antenna' omega')
+      → LikeMeasurement (axis s) s 3 (measuredVelocity f antenna omega) (measuredVelocity f' antenna' omega')
   unfolding measuredVelocity
   like-measuredVelocity h k =
       let transported = like-transportedVelocity (F .x) k in
       record { output = like-velocityOutputMatrix h transported (like-mulMat3Vec3 (F .x .c .rotation) k); innovation = like-toArray (like-subVec3 transported h) }
 
   pub like-measuredDirection : {measured measured' north north' : Vec3} → LikeVec3 (axis m) measured measured' → LikeVec3 (axis s) north north'
-      → LikeMeasurement s (measuredDirection f measured north) (measuredDirection f' measured' north')
+      → LikeMeasurement (axis s) s 3 (measuredDirection f measured north) (measuredDirection f' measured' north')
   unfolding measuredDirection
   like-measuredDirection h k =
       let origin = like-normalized k in

@@ -1,11 +1,14 @@
 -- Filters, answers and measurements that are the same but for signs, both zeros counting as one: s is the reference frame's signs, b the
 -- body's, m the magnetometer's. Assumes nothing.
-use mathlib.Core.Bool.{false}
+use mathlib.Core.Bool.{Bool, false}
+use mathlib.Core.List.{List}
 use Prim.Native.Nat.{ℕ}
 use lib.Ieee.{Float}
 use Rattle.drifters_demands.specs.Like.{Like, Signs, axis, LikeList, LikeVec3, LikeMatrix, noTurn}
-use Rattle.drifters_demands.proofs.Signs.GroupRecords.{LikeSymmetry}
+use Rattle.drifters_demands.proofs.Signs.GroupRecords.{LikeSymmetry, LikeInput}
 use Rattle.drifters_eqf.specs.Filter.{Measurement}
+use Rattle.drifters_entry.specs.Entry.{Request, refusal, propagation, measurement, estimate}
+use Rattle.drifters_symmetry.specs.declared.lift.Input.{Input}
 use Rattle.drifters_covariance.specs.declared.covariance.ProcessNoise.{ProcessNoise}
 use Rattle.drifters_eqf.specs.declared.filter.EqFilter.{EqFilter}
 use Rattle.drifters_eqf.specs.declared.filter.Answer.{Answer}
@@ -37,7 +40,16 @@ pub record LikeAnswered (s b m : Signs) (a z : Answered) : Type 0 where
   pub answer : LikeAnswer (a .answer) (z .answer)
   pub filter : LikeFilter s b m (a .filter) (z .filter)
 
--- a measurement of three numbers in the reference frame
-pub record LikeMeasurement (s : Signs) (z y : Measurement) : Type 0 where
-  pub output : LikeMatrix (axis s) (axis s) 3 21 (z .output) (y .output)
-  pub innovation : LikeList (axis s) 3 (z .innovation) (y .innovation)
+-- a measurement of w numbers, which take the signs σ
+pub record LikeMeasurement (σ : ℕ → Bool) (s : Signs) (w : ℕ) (z y : Measurement) : Type 0 where
+  pub output : LikeMatrix σ (axis s) w 21 (z .output) (y .output)
+  pub innovation : LikeList σ w (z .innovation) (y .innovation)
+
+-- what two calls ask: the same refusal of its own; a propagation, the body not turned; a measurement of w numbers, whatever signs they take; the estimate
+pub data LikeRequest (s : Signs) : Request → Request → Type 0 where
+  like-refusal : {n : ℕ} → LikeRequest s (refusal n) (refusal n)
+  like-propagation : {u v : Input} {t r : Float} {p q : ProcessNoise} → LikeInput noTurn u v → Like false t r → LikeProcessNoise p q
+      → LikeRequest s (propagation u t p) (propagation v r q)
+  like-measurement : {σ : ℕ → Bool} {w : ℕ} {z y : Measurement} {noise noise' : List Float} {a b : Float} → LikeMeasurement σ s w z y → LikeMatrix σ σ w w noise noise'
+      → Like false a b → LikeRequest s (measurement w z noise a) (measurement w y noise' b)
+  like-estimate : LikeRequest s estimate estimate
