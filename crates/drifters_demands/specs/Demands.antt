@@ -22,7 +22,7 @@ use Rattle.drifters_eqf.specs.declared.filter.EqFilter.{EqFilter}
 use Rattle.drifters_eqf.specs.declared.filter.Answer.{Answer}
 use Rattle.drifters_eqf.specs.declared.filter.Answer.the-variants.{Nis, Fine, Refused}
 use Rattle.drifters_entry.specs.Layout.{filterLength, startLength, sigmaPlace, fromRun, toRun, stateToRun}
-use Rattle.drifters_entry.specs.Kind.{writtenLength}
+use Rattle.drifters_entry.specs.Kind.{formOf, writtenLength}
 use Rattle.drifters_entry.specs.Entry.{Request, refusal, propagation, measurement, estimate, requestOf, Outcome, refused, lengthsFit, call, started, start}
 use Rattle.drifters_entry.specs.Log.{Call, LogEntry, Log, logOf}
 use Rattle.drifters_entry.specs.declared.kind.Kind.{Kind}
@@ -71,7 +71,7 @@ laterChecks estimate f = unless rangeRefusal (allFinite (stateToRun (navState f)
 -- the checks of a call, in document 01's order
 abbrev pub checks : Kind → List Float → List Float → List Float → List Check
 checks kind run v written =
-    unless lengthRefusal (lengthsFit kind run v (length written))
+    unless lengthRefusal (lengthsFit (formOf kind) run v (length written))
     ∷ unless blankRefusal (allFinite run && allFinite v)
     ∷ laterChecks (requestOf kind (fromRun run) v) (fromRun run)
 

@@ -12,9 +12,8 @@ use Rattle.drifters_real.specs.Real.{isFinite}
 use Rattle.drifters_matrix.specs.Matrix.{allFinite}
 use Rattle.drifters_eqf.specs.Answer.{lengthRefusal, blankRefusal, rangeRefusal}
 use Rattle.drifters_entry.specs.Layout.{filterLength, fromRun, toRun}
-use Rattle.drifters_entry.specs.Kind.{callLength, writtenLength}
+use Rattle.drifters_entry.specs.Kind.{formOf, callLength, writtenLength}
 use Rattle.drifters_entry.specs.Entry.{requestOf, Outcome, outcome, outcomeOf, performed, refused, rangeCheckedAs, rangeChecked, lengthsFit, firstRefusal, call}
-use Rattle.drifters_eqf.specs.declared.filter.EqFilter.{EqFilter}
 use Rattle.drifters_eqf.specs.declared.filter.Answer.{Answer}
 use Rattle.drifters_eqf.specs.declared.filter.Answer.the-variants.{Nis, Fine, Refused}
 use Rattle.drifters_eqf.specs.declared.filter.Answered.{Answered}
@@ -49,10 +48,10 @@ pub record Passed (kind : Kind) (run v written : List Float) : Type 0 where
   pub finite : allFinite run && allFinite v ≡ true
 
 -- r is what `first_refusal` gives
-module _ (kind : Kind) (run v written : List Float) {r : ℕ} (e : r ≡ firstRefusal kind run v (length written)) where
+module _ (kind : Kind) (run v written : List Float) {r : ℕ} (e : r ≡ firstRefusal (formOf kind) run v (length written)) where
   pub passed : r ≡ 0 → Passed kind run v written
   passed z =
-      let both = none-refused (lengthsFit kind run v (length written)) (allFinite run && allFinite v) r e z in
+      let both = none-refused (lengthsFit (formOf kind) run v (length written)) (allFinite run && allFinite v) r e z in
       let runs = both-true (eqb (length run) filterLength && eqb (length v) (callLength kind)) (eqb (length written) (writtenLength kind)) (both .0) in
       let fits = both-true (eqb (length run) filterLength) (eqb (length v) (callLength kind)) (runs .0) in
       record {
@@ -65,7 +64,7 @@ module _ (kind : Kind) (run v written : List Float) {r : ℕ} (e : r ≡ firstRe
 
   pub call-refused : (r ≡ 0 → ⊥) → refused r run written ≡ call kind run v written
   unfolding call
-  call-refused h = some-refused (lengthsFit kind run v (length written)) (allFinite run && allFinite v) r run written _ e h
+  call-refused h = some-refused (lengthsFit (formOf kind) run v (length written)) (allFinite run && allFinite v) r run written _ e h
 
 -- ---- a call that is begun
 
@@ -78,15 +77,12 @@ pub no-numbers : (v : List Float) → length v ≡ 0 → v ≡ []
 no-numbers [] e = refl
 no-numbers (x ∷ v) e = absurd (omega (arith, e))
 
--- a call of a kind K that writes nothing beside the filter: f is read from the run, a is made by the numbers, and the run is left
-pub call-made : (K : Kind) (run v : List Float) (a : Answered) {kind : Kind} {written left : List Float} {f : EqFilter} {o : Answer} → writtenLength K ≡ 0
-    → kind ≡ K → Passed kind run v written → f ≡ fromRun run → ((r : List Float) → outcomeOf a [] ≡ performed (requestOf K f v) f r [])
-    → outcome o left [] ≡ rangeChecked (outcomeOf a []) run [] → outcome o left written ≡ call kind run v written
-call-made K run v a {kind} {written} {left} {f} {o} nothing told p read made given =
+-- a call of a kind K that writes nothing beside the filter
+pub call-made : (K : Kind) (run v : List Float) {kind : Kind} {written left : List Float} {o : Answer} → writtenLength K ≡ 0 → kind ≡ K → Passed kind run v written
+    → outcome o left [] ≡ rangeChecked (performed (requestOf K (fromRun run) v) (fromRun run) run []) run [] → outcome o left written ≡ call kind run v written
+call-made K run v {kind} {written} nothing told p given =
     let empty : written ≡ [] = no-numbers written (p .written-length ∙ ap writtenLength told ∙ nothing) in
-    let result : outcome o left [] ≡ rangeChecked (performed (requestOf K (fromRun run) v) (fromRun run) run []) run [] =
-    given ∙ ap (λ (q : Outcome). rangeChecked q run []) (made run ∙ ap (λ (g : EqFilter). performed (requestOf K g v) g run []) read) in
-    call-passed kind run v written p (rw (empty, told) result)
+    call-passed kind run v written p (rw (empty, told) given)
 
 -- ---- what is given out
 

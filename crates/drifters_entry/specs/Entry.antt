@@ -10,7 +10,8 @@ use Rattle.drifters_eqf.specs.Answer.{lengthRefusal, blankRefusal, rangeRefusal
 use Rattle.drifters_lie.specs.Lie.{vec3At}
 use Rattle.drifters_covariance.specs.Covariance.{inputAt}
 use Rattle.drifters_eqf.specs.Filter.{new, navState, propagate, Measurement, updateBy, measuredPosition, measuredVelocity, measuredDirection}
-pub use Rattle.drifters_entry.specs.Kind.{kindNumber, callLength, writtenLength}
+use Rattle.drifters_entry.specs.Kind.{formOf}
+use Rattle.drifters_entry.specs.declared.kind.Form.{Form}
 use Rattle.drifters_entry.specs.Layout.{sigmaPlace, gravityPlace, filterLength, startLength, part, fromRun, toRun, stateFromRun, stateToRun}
 use Rattle.drifters_symmetry.specs.declared.lift.Input.{Input}
 use Rattle.drifters_covariance.specs.declared.covariance.ProcessNoise.{ProcessNoise}
@@ -43,9 +44,9 @@ processNoiseAt v i = record {
 -- what the numbers v of a call ask of the filter f
 abbrev pub requestOf : Kind → EqFilter → List Float → Request
 requestOf Propagate f v = propagation (inputAt v 0) (getD v 6 nan) (processNoiseAt v 7)
-requestOf Position f v = measurement 3 (measuredPosition f (vec3At v 0)) (part v 3 9) (f .alpha)
-requestOf Velocity f v = measurement 3 (measuredVelocity f (vec3At v 0) (vec3At v 3)) (part v 6 9) (f .alpha)
-requestOf Direction f v = measurement 3 (measuredDirection f (vec3At v 0) (vec3At v 3)) (part v 6 9) (f .alpha)
+requestOf Position f v = measurement 3 (measuredPosition (f .x) (vec3At v 0)) (part v 3 9) (f .alpha)
+requestOf Velocity f v = measurement 3 (measuredVelocity (f .x) (vec3At v 0) (vec3At v 3)) (part v 6 9) (f .alpha)
+requestOf Direction f v = measurement 3 (measuredDirection (f .x) (vec3At v 0) (vec3At v 3)) (part v 6 9) (f .alpha)
 requestOf General f v = measurement 3 (record { output = part v 0 63; innovation = part v 63 3 }) (part v 66 9) (f .alpha)
 requestOf State f v = estimate
 
@@ -92,18 +93,18 @@ rangeCheckedAs (Refused n) o run written = refused n run written
 unfoldable pub rangeChecked : Outcome → List Float → List Float → Outcome
 rangeChecked o run written = rangeCheckedAs (o .answer) o run written
 
--- every lent run of a call has its stated length, n that of the run to be written, which is empty where nothing is written beside the filter
-abbrev pub lengthsFit : Kind → List Float → List Float → ℕ → Bool
-lengthsFit kind run v n = eqb (length run) filterLength && eqb (length v) (callLength kind) && eqb n (writtenLength kind)
+-- every lent run of a call of a form has its stated length, n that of the run to be written, which is empty where nothing is written beside the filter
+abbrev pub lengthsFit : Form → List Float → List Float → ℕ → Bool
+lengthsFit form run v n = eqb (length run) filterLength && eqb (length v) (form .numbers) && eqb n (form .written)
 
--- the number of the refusal of a call by length or blank, where its run to be written has n numbers; 0 where there is none
-abbrev pub firstRefusal : Kind → List Float → List Float → ℕ → ℕ
-firstRefusal kind run v n = cond (lengthsFit kind run v n) (cond (allFinite run && allFinite v) 0 blankRefusal) lengthRefusal
+-- the number of the refusal of a call of a form by length or blank, where its run to be written has n numbers; 0 where there is none
+abbrev pub firstRefusal : Form → List Float → List Float → ℕ → ℕ
+firstRefusal form run v n = cond (lengthsFit form run v n) (cond (allFinite run && allFinite v) 0 blankRefusal) lengthRefusal
 
 -- a call of a kind with the numbers v, on the filter's run; `written` is the run that a state call writes
 unfoldable pub call : Kind → List Float → List Float → List Float → Outcome
 call kind run v written =
-    cond (lengthsFit kind run v (length written))
+    cond (lengthsFit (formOf kind) run v (length written))
     (cond (allFinite run && allFinite v)
     (rangeChecked (performed (requestOf kind (fromRun run) v) (fromRun run) run written) run written)
     (refused blankRefusal run written))

@@ -3,7 +3,8 @@ use mathlib.Core.List.{List, [], _∷_}
 use lib.Ieee.{Float}
 use Rattle.drifters_matrix.specs.Matrix.{zeros}
 use Rattle.drifters_eqf.specs.declared.filter.Answer.{Answer}
-use Rattle.drifters_entry.specs.Entry.{writtenLength, Outcome, call}
+use Rattle.drifters_entry.specs.Kind.{writtenLength}
+use Rattle.drifters_entry.specs.Entry.{Outcome, call}
 use Rattle.drifters_entry.specs.declared.kind.Kind.{Kind}
 
 -- one call: its kind and its numbers

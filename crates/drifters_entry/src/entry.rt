@@ -1,18 +1,19 @@
 // The calls on a filter that is lent as a run of numbers. Runs of any length come in; a call that is refused changes none of them.
 ghost use mathlib.Core.Path.{_≡_};
 ghost use mathlib.Core.Bool.{true};
-ghost use mathlib.Core.List.{List, []};
+ghost use mathlib.Core.List.{[]};
 ghost use Prim.Native.Nat.{_+_, _≤_};
 ghost use lib.ListN.{length};
-ghost use lib.Ieee.{Float};
 ghost use Rattle.drifters_matrix.specs.Matrix.{allFinite};
+ghost use Rattle.drifters_lie.specs.Lie.{vec3At};
+ghost use Rattle.drifters_eqf.specs.Filter.{measurement3, measuredPosition, measuredVelocity, measuredDirection};
 ghost use Rattle.drifters_entry.specs.Layout.{filterLength, stateLength, part, fromRun};
 ghost use Rattle.drifters_entry.specs.Kind.{callLength};
-ghost use Rattle.drifters_entry.specs.Entry.{estimate, processNoiseAt, requestOf, outcome, outcomeOf, performed, rangeChecked, firstRefusal, call, start};
+ghost use Rattle.drifters_entry.specs.Entry.{measurement, estimate, processNoiseAt, requestOf, outcome, outcomeOf, performed, rangeChecked, firstRefusal, call, start};
 ghost use Rattle.drifters_entry.specs.declared.kind.Kind.the-variants.{Propagate, Position, Velocity, Direction, General, State};
+use crate::kind::Form;
 use crate::kind::Kind;
-use crate::kind::call_length;
-use crate::kind::written_length;
+use crate::kind::form_of;
 use crate::layout::ALPHA;
 use crate::layout::GRAVITY;
 use crate::layout::SIGMA;
@@ -33,7 +34,11 @@ use drifters_eqf::filter::Answered;
 use drifters_eqf::filter::BLANK_REFUSAL;
 use drifters_eqf::filter::EqFilter;
 use drifters_eqf::filter::LENGTH_REFUSAL;
+use drifters_eqf::filter::Measurement3;
 use drifters_eqf::filter::RANGE_REFUSAL;
+use drifters_eqf::filter::measured_direction;
+use drifters_eqf::filter::measured_position;
+use drifters_eqf::filter::measured_velocity;
 use drifters_matrix::math::matrix::all_finite;
 use drifters_matrix::math::shapes::Mat3x21;
 use drifters_real::math::real::is_finite;
@@ -54,16 +59,16 @@ pub const START_LENGTH: usize = ALPHA;
 pub fn call(kind: Kind, run: &mut [f64], numbers: &[f64], written: &mut [f64]) -> Answer
     ensures { λ r. ⌜ outcome r (now (run .exit)) (now (written .exit)) ≡ call kind (now (run .entry)) (now (numbers .entry)) (now (written .entry)) ⌝ }
 {
-    let refusal = first_refusal(kind, run, numbers, written.len());
+    let refusal = first_refusal(form_of(kind), run, numbers, written.len());
     if refusal != 0 {
         return Answer::Refused(refusal);
     }
     match kind {
-        Kind::Propagate => write_filter(propagation_by(from_run(run), numbers), run),
-        Kind::Position => write_filter(position_by(from_run(run), numbers), run),
-        Kind::Velocity => write_filter(velocity_by(from_run(run), numbers), run),
-        Kind::Direction => write_filter(direction_by(from_run(run), numbers), run),
-        Kind::General => write_filter(general_by(from_run(run), numbers), run),
+        Kind::Propagate => propagate_by(numbers, run),
+        Kind::Position => update_by(position(run, numbers), numbers, 3, run[ALPHA], run),
+        Kind::Velocity => update_by(velocity(run, numbers), numbers, 6, run[ALPHA], run),
+        Kind::Direction => update_by(direction(run, numbers), numbers, 6, run[ALPHA], run),
+        Kind::General => update_by(general(numbers), numbers, 66, run[ALPHA], run),
         Kind::State => write_estimate(run, written),
     }
 }
@@ -108,7 +113,7 @@ pub fn nav_state(run: &[f64], written: &mut [f64]) -> Answer
     ensures { λ r. ⌜ outcome r (now (run .entry)) (now (written .exit)) ≡ call State (now (run .entry)) [] (now (written .entry)) ⌝ }
 {
     let none = [0.0; 0];
-    let refusal = first_refusal(Kind::State, run, &none, written.len());
+    let refusal = first_refusal(form_of(Kind::State), run, &none, written.len());
     if refusal != 0 {
         return Answer::Refused(refusal);
     }
@@ -146,13 +151,14 @@ fn filter_call(kind: Kind, run: &mut [f64], numbers: &[f64]) -> Answer
     call(kind, run, numbers, &mut none)
 }
 
-// The refusal of a call before it is begun, by length or blank; 0 where there is none. `written` is how many numbers its run to be written has.
-fn first_refusal(kind: Kind, run: &[f64], numbers: &[f64], written: usize) -> u32
-    ensures { λ r. ⌜ r ≡ firstRefusal kind (now (run .entry)) (now (numbers .entry)) written ⌝ }
+// The refusal of a call of a form before it is begun, by length or blank; 0 where there is none. `written` is how many numbers its run to be
+// written has.
+fn first_refusal(form: Form, run: &[f64], numbers: &[f64], written: usize) -> u32
+    ensures { λ r. ⌜ r ≡ firstRefusal form (now (run .entry)) (now (numbers .entry)) written ⌝ }
 {
     let lengths_fit = (run.len() == FILTER_LENGTH)
-        & (numbers.len() == call_length(kind))
-        & (written == written_length(kind));
+        & (numbers.len() == form.numbers)
+        & (written == form.written);
     if !lengths_fit {
         return LENGTH_REFUSAL;
     }
@@ -162,64 +168,72 @@ fn first_refusal(kind: Kind, run: &[f64], numbers: &[f64], written: usize) -> u3
     0
 }
 
-// The propagation that a call's numbers ask for.
-fn propagation_by(filter: EqFilter, numbers: &[f64]) -> Answered
-    requires { ⌜ length (now numbers) ≡ callLength Propagate ⌝ }
-    ensures { λ r. ⌜ ((run : List Float) → outcomeOf r [] ≡ performed (requestOf Propagate filter (now (numbers .entry))) filter run []) ⌝ }
+// The propagation of a filter by a call's numbers.
+fn propagate_by(numbers: &[f64], run: &mut [f64]) -> Answer
+    requires { ⌜ (length (now numbers) ≡ callLength Propagate) × (length (now run) ≡ filterLength) ⌝ }
+    ensures { λ r. ⌜ outcome r (now (run .exit)) [] ≡ rangeChecked (performed (requestOf Propagate (fromRun (now (run .entry))) (now (numbers .entry))) (fromRun (now (run .entry))) (now (run .entry)) []) (now (run .entry)) [] ⌝ }
 {
     let u = Input {
         omega: vec3_at(numbers, 0),
         accel: vec3_at(numbers, 3),
     };
     let q = process_noise_at(numbers, 7);
-    filter.propagate(u, numbers[6], q)
+    write_filter(from_run(run).propagate(u, numbers[6], q), run)
 }
 
-// The update by an antenna position that a call's numbers ask for.
-fn position_by(filter: EqFilter, numbers: &[f64]) -> Answered
-    requires { ⌜ length (now numbers) ≡ callLength Position ⌝ }
-    ensures { λ r. ⌜ ((run : List Float) → outcomeOf r [] ≡ performed (requestOf Position filter (now (numbers .entry))) filter run []) ⌝ }
+// The update of a filter by three measured numbers with their noise, nine numbers from `at` on, and alpha.
+fn update_by(m: Measurement3, numbers: &[f64], at: usize, alpha: f64, run: &mut [f64]) -> Answer
+    requires { ⌜ (at + 9 ≤ length (now numbers)) × (length (now run) ≡ filterLength) ⌝ }
+    ensures { λ r. ⌜ outcome r (now (run .exit)) [] ≡ rangeChecked (performed (measurement 3 (measurement3 m) (part (now (numbers .entry)) at 9) alpha) (fromRun (now (run .entry))) (now (run .entry)) []) (now (run .entry)) [] ⌝ }
 {
-    filter.update_position(vec3_at(numbers, 0), mat3_at(numbers, 3), filter.alpha)
-}
-
-// The update by an antenna velocity that a call's numbers ask for.
-fn velocity_by(filter: EqFilter, numbers: &[f64]) -> Answered
-    requires { ⌜ length (now numbers) ≡ callLength Velocity ⌝ }
-    ensures { λ r. ⌜ ((run : List Float) → outcomeOf r [] ≡ performed (requestOf Velocity filter (now (numbers .entry))) filter run []) ⌝ }
-{
-    filter.update_velocity(
-        vec3_at(numbers, 0),
-        vec3_at(numbers, 3),
-        mat3_at(numbers, 6),
-        filter.alpha,
+    let noise = mat3_at(numbers, at);
+    write_filter(
+        from_run(run).update(m.output, m.innovation, noise, alpha),
+        run,
     )
 }
 
-// The update by a direction that a call's numbers ask for.
-fn direction_by(filter: EqFilter, numbers: &[f64]) -> Answered
-    requires { ⌜ length (now numbers) ≡ callLength Direction ⌝ }
-    ensures { λ r. ⌜ ((run : List Float) → outcomeOf r [] ≡ performed (requestOf Direction filter (now (numbers .entry))) filter run []) ⌝ }
+// What a position call measures: antenna 3.
+fn position(run: &[f64], numbers: &[f64]) -> Measurement3
+    requires { ⌜ (length (now run) ≡ filterLength) × (length (now numbers) ≡ callLength Position) ⌝ }
+    ensures { λ r. ⌜ measurement3 r ≡ measuredPosition (fromRun (now (run .entry)) .x) (vec3At (now (numbers .entry)) 0) ⌝ }
 {
-    filter.update_direction(
+    measured_position(symmetry_from_run(run), vec3_at(numbers, 0))
+}
+
+// What a velocity call measures: antenna 3, omega 3.
+fn velocity(run: &[f64], numbers: &[f64]) -> Measurement3
+    requires { ⌜ (length (now run) ≡ filterLength) × (length (now numbers) ≡ callLength Velocity) ⌝ }
+    ensures { λ r. ⌜ measurement3 r ≡ measuredVelocity (fromRun (now (run .entry)) .x) (vec3At (now (numbers .entry)) 0) (vec3At (now (numbers .entry)) 3) ⌝ }
+{
+    measured_velocity(
+        symmetry_from_run(run),
         vec3_at(numbers, 0),
         vec3_at(numbers, 3),
-        mat3_at(numbers, 6),
-        filter.alpha,
     )
 }
 
-// The general update that a call's numbers ask for.
-fn general_by(filter: EqFilter, numbers: &[f64]) -> Answered
+// What a direction call measures: measured 3, north 3.
+fn direction(run: &[f64], numbers: &[f64]) -> Measurement3
+    requires { ⌜ (length (now run) ≡ filterLength) × (length (now numbers) ≡ callLength Direction) ⌝ }
+    ensures { λ r. ⌜ measurement3 r ≡ measuredDirection (fromRun (now (run .entry)) .x) (vec3At (now (numbers .entry)) 0) (vec3At (now (numbers .entry)) 3) ⌝ }
+{
+    measured_direction(
+        symmetry_from_run(run),
+        vec3_at(numbers, 0),
+        vec3_at(numbers, 3),
+    )
+}
+
+// What a general update measures: output matrix 63, innovation 3.
+fn general(numbers: &[f64]) -> Measurement3
     requires { ⌜ length (now numbers) ≡ callLength General ⌝ }
-    ensures { λ r. ⌜ ((run : List Float) → outcomeOf r [] ≡ performed (requestOf General filter (now (numbers .entry))) filter run []) ⌝ }
+    ensures { λ r. ⌜ measurement3 r ≡ (record { output = part (now (numbers .entry)) 0 63; innovation = part (now (numbers .entry)) 63 3 }) ⌝ }
 {
-    filter.update(
-        output_matrix(numbers),
-        vec3_at(numbers, 63),
-        mat3_at(numbers, 66),
-        filter.alpha,
-    )
+    Measurement3 {
+        output: output_matrix(numbers),
+        innovation: vec3_at(numbers, 63),
+    }
 }
 
 // Eighteen densities from `at` on.

@@ -23,6 +23,7 @@ use Rattle.drifters_covariance.specs.declared.covariance.ProcessNoise.{ProcessN
 use Rattle.drifters_eqf.specs.declared.filter.EqFilter.{EqFilter}
 use Rattle.drifters_eqf.specs.declared.filter.Answer.the-variants.{Nis, Fine, Refused}
 use Rattle.drifters_eqf.specs.declared.filter.Answered.{Answered}
+use Rattle.drifters_eqf.specs.declared.filter.Measurement3.{Measurement3}
 
 -- 8.0: the largest norm of a rotation vector whose exponential is taken
 abbrev pub turnLimit : Float
@@ -153,37 +154,29 @@ pub record Measurement : Type 0 where
   pub output : List Float
   pub innovation : List Float
 
+-- the same of three numbers, as the code has it
+abbrev pub measurement3 : Measurement3 → Measurement
+measurement3 m = record { output = m .output .«data»; innovation = toArray (m .innovation) }
+
 -- the update by a measurement of w numbers
 abbrev pub updateBy : ℕ → EqFilter → Measurement → List Float → Float → Answered
 updateBy w f m noise alpha = update w f (m .output) (m .innovation) noise alpha
 
 -- an antenna position, measured
-unfoldable pub measuredPosition : EqFilter → Vec3 → Measurement
-measuredPosition f antenna =
-    let transported = transportedPosition (f .x) in
+unfoldable pub measuredPosition : Symmetry → Vec3 → Measurement
+measuredPosition x antenna =
+    let transported = transportedPosition x in
     record { output = positionOutputMatrix antenna transported; innovation = toArray (subVec3 transported antenna) }
 
--- the update by an antenna position
-abbrev pub updatePosition : EqFilter → Vec3 → List Float → Float → Answered
-updatePosition f antenna noise alpha = updateBy 3 f (measuredPosition f antenna) noise alpha
-
 -- an antenna velocity, measured at the rate that built it
-unfoldable pub measuredVelocity : EqFilter → Vec3 → Vec3 → Measurement
-measuredVelocity f antenna omega =
-    let transported = transportedVelocity (f .x) omega in
-    record { output = velocityOutputMatrix antenna transported (mulMat3Vec3 (f .x .c .rotation) omega); innovation = toArray (subVec3 transported antenna) }
-
--- the update by an antenna velocity
-abbrev pub updateVelocity : EqFilter → Vec3 → Vec3 → List Float → Float → Answered
-updateVelocity f antenna omega noise alpha = updateBy 3 f (measuredVelocity f antenna omega) noise alpha
+unfoldable pub measuredVelocity : Symmetry → Vec3 → Vec3 → Measurement
+measuredVelocity x antenna omega =
+    let transported = transportedVelocity x omega in
+    record { output = velocityOutputMatrix antenna transported (mulMat3Vec3 (x .c .rotation) omega); innovation = toArray (subVec3 transported antenna) }
 
 -- a magnetometer direction, measured of a known north
-unfoldable pub measuredDirection : EqFilter → Vec3 → Vec3 → Measurement
-measuredDirection f measured north =
+unfoldable pub measuredDirection : Symmetry → Vec3 → Vec3 → Measurement
+measuredDirection x measured north =
     let origin = normalized north in
-    let transported = transportedDirection (f .x) (normalized measured) in
+    let transported = transportedDirection x (normalized measured) in
     record { output = directionOutputMatrix origin transported; innovation = toArray (mulMat3Vec3 (skew origin) transported) }
-
--- the update by a magnetometer direction
-abbrev pub updateDirection : EqFilter → Vec3 → Vec3 → List Float → Float → Answered
-updateDirection f measured north noise alpha = updateBy 3 f (measuredDirection f measured north) noise alpha

@@ -2,7 +2,7 @@
 // right, the correction of an update on the left. The lines of the covariance are in drifters_covariance.
 ghost use mathlib.Core.Path.{_≡_};
 ghost use Rattle.drifters_core.specs.Vec3.{toArray};
-ghost use Rattle.drifters_eqf.specs.Filter.{turnFits, refuse, new, navState, propagate, applied, update, updatePosition, updateVelocity, updateDirection};
+ghost use Rattle.drifters_eqf.specs.Filter.{turnFits, refuse, new, navState, propagate, applied, update, measurement3, measuredPosition, measuredVelocity, measuredDirection};
 use crate::gcu::inflate_at;
 use crate::gcu::nis;
 use drifters_cholesky::math::cholesky::Cholesky3;
@@ -71,6 +71,12 @@ pub struct Answered {
     pub filter: EqFilter,
 }
 
+// What an update of three numbers measures: its output matrix and its innovation.
+pub struct Measurement3 {
+    pub output: Mat3x21,
+    pub innovation: Vec3,
+}
+
 impl EqFilter {
     // The filter of an initial estimate and covariance.
     pub fn new(initial: State, sigma: Mat21, gravity: Vec3) -> EqFilter
@@ -129,36 +135,7 @@ impl EqFilter {
         }
     }
 
-    // The update by a measured antenna position.
-    pub fn update_position(self, antenna: Vec3, noise: Mat3, alpha: f64) -> Answered
-        ensures { λ r. ⌜ r ≡ updatePosition self antenna (noise .data) alpha ⌝ }
-    {
-        let transported = transported_position(self.x);
-        let c = position_output_matrix(antenna, transported);
-        self.update(c, transported.sub(antenna), noise, alpha)
-    }
-
-    // The update by a measured antenna velocity, at the rate that built it.
-    pub fn update_velocity(self, antenna: Vec3, omega: Vec3, noise: Mat3, alpha: f64) -> Answered
-        ensures { λ r. ⌜ r ≡ updateVelocity self antenna omega (noise .data) alpha ⌝ }
-    {
-        let transported = transported_velocity(self.x, omega);
-        let rate = mul_vec3(self.x.a(), omega);
-        let c = velocity_output_matrix(antenna, transported, rate);
-        self.update(c, transported.sub(antenna), noise, alpha)
-    }
-
-    // The update by a measured direction of the known north.
-    pub fn update_direction(self, measured: Vec3, north: Vec3, noise: Mat3, alpha: f64) -> Answered
-        ensures { λ r. ⌜ r ≡ updateDirection self measured north (noise .data) alpha ⌝ }
-    {
-        let origin = north.normalized();
-        let transported = transported_direction(self.x, measured.normalized());
-        let c = direction_output_matrix(origin, transported);
-        self.update(c, mul_vec3(origin.skew(), transported), noise, alpha)
-    }
-
-    // The update that the others share, as far as the gain; `apply` does the rest. The answer is the normalised innovation squared before
+    // The update by a measurement, as far as the gain; `apply` does the rest. The answer is the normalised innovation squared before
     // inflation, which hides how unexpected the innovation is. The gain Σ cᵀ S⁻¹ is the transpose of a solve with the Cholesky factor of S,
     // since S is symmetric: an inverse would cost more and round more.
     pub fn update(self, c: Mat3x21, innovation: Vec3, noise: Mat3, alpha: f64) -> Answered
@@ -215,6 +192,41 @@ impl EqFilter {
                 alpha,
             },
         }
+    }
+}
+
+// What an update by an antenna position measures.
+pub fn measured_position(x: Symmetry, antenna: Vec3) -> Measurement3
+    ensures { λ r. ⌜ measurement3 r ≡ measuredPosition x antenna ⌝ }
+{
+    let transported = transported_position(x);
+    Measurement3 {
+        output: position_output_matrix(antenna, transported),
+        innovation: transported.sub(antenna),
+    }
+}
+
+// What an update by an antenna velocity measures, at the rate that built it.
+pub fn measured_velocity(x: Symmetry, antenna: Vec3, omega: Vec3) -> Measurement3
+    ensures { λ r. ⌜ measurement3 r ≡ measuredVelocity x antenna omega ⌝ }
+{
+    let transported = transported_velocity(x, omega);
+    let rate = mul_vec3(x.a(), omega);
+    Measurement3 {
+        output: velocity_output_matrix(antenna, transported, rate),
+        innovation: transported.sub(antenna),
+    }
+}
+
+// What an update by a direction of the known north measures.
+pub fn measured_direction(x: Symmetry, measured: Vec3, north: Vec3) -> Measurement3
+    ensures { λ r. ⌜ measurement3 r ≡ measuredDirection x measured north ⌝ }
+{
+    let origin = north.normalized();
+    let transported = transported_direction(x, measured.normalized());
+    Measurement3 {
+        output: direction_output_matrix(origin, transported),
+        innovation: mul_vec3(origin.skew(), transported),
     }
 }
 

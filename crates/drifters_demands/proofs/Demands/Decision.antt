@@ -14,7 +14,7 @@ use Rattle.drifters_eqf.specs.Answer.{rangeRefusal, numberOf, valuesOf}
 use Rattle.drifters_eqf.specs.Gcu.{definite, entriesOf, nis}
 use Rattle.drifters_eqf.specs.Filter.{turnFits, refuse, navState, halfStep, fullStep, propagated, propagate, rawFactor, inflatedFactor, gain, correction, step, corrected, applied, update}
 use Rattle.drifters_entry.specs.Layout.{filterLength, startLength, fromRun, toRun, stateToRun}
-use Rattle.drifters_entry.specs.Kind.{callLength, writtenLength}
+use Rattle.drifters_entry.specs.Kind.{formOf, callLength, writtenLength}
 use Rattle.drifters_entry.specs.Entry.{Request, refusal, propagation, measurement, estimate, requestOf, Outcome, outcomeOf, performed, refused, finiteOutcome, ifFinite, rangeCheckedAs, rangeChecked, lengthsFit, call, started, start}
 use Rattle.drifters_demands.specs.Demands.{Check, unless, firstOf, laterChecks, checks, startChecks, Checked, acceptedOutcome}
 use Rattle.drifters_eqf.specs.declared.filter.EqFilter.{EqFilter}
@@ -149,7 +149,7 @@ pub call-decision :
     → Decision run written (acceptedCall kind run v written) (firstOf (checks kind run v written)) (call kind run v written)
 unfolding call firstOf
 call-decision kind run v written =
-    check 0 (lengthsFit kind run v (length written)) _ (λ fits.
+    check 0 (lengthsFit (formOf kind) run v (length written)) _ (λ fits.
     check 1 (allFinite run && allFinite v) _ (λ finite.
     let n = eqb-true (length written) (writtenLength kind) (and-eq-true-iff (eqb (length run) filterLength && eqb (length v) (callLength kind)) _ .0 fits .1) in
     request-decision (requestOf kind (fromRun run) v) (fromRun run) run written (and-eq-true-iff (allFinite run) _ .0 finite .0)

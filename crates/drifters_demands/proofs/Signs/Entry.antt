@@ -19,7 +19,7 @@ use Rattle.drifters_eqf.specs.Answer.{lengthRefusal, blankRefusal, rangeRefusal
 use Rattle.drifters_lie.specs.Lie.{vec3At}
 use Rattle.drifters_covariance.specs.Covariance.{inputAt}
 use Rattle.drifters_entry.specs.Layout.{filterLength, part, fromRun, toRun, stateToRun, SizedFilter, SizedState}
-use Rattle.drifters_entry.specs.Kind.{callLength, writtenLength}
+use Rattle.drifters_entry.specs.Kind.{formOf, callLength, writtenLength}
 use Rattle.drifters_entry.specs.Entry.{Request, processNoiseAt, requestOf, Outcome, outcomeOf, performed, refused, finiteOutcome, ifFinite, rangeCheckedAs, rangeChecked, lengthsFit, call}
 use Rattle.drifters_demands.specs.Turn.{plain, thenSigns, matrixSigns, noiseSigns, filterSigns, callSigns, stateSigns}
 use Rattle.drifters_symmetry.specs.declared.group.State.{State as StateRecord}
@@ -194,10 +194,10 @@ like-call {s} {σ} {run} {run'} {v} {w} {written} {written'} kind agrees R N W =
     (λ blank. like-refused W blankRefusal R))
     (λ e. like-refused W lengthRefusal R)
   where
-    fits : lengthsFit kind run v (length written) ≡ lengthsFit kind run' w (length written')
+    fits : lengthsFit (formOf kind) run v (length written) ≡ lengthsFit (formOf kind) run' w (length written')
     fits = λ i. eqb (R .size i) filterLength && eqb (N .size i) (callLength kind) && eqb (W .size i) (writtenLength kind)
 
-    lengths : lengthsFit kind run v (length written) ≡ true → (length run ≡ filterLength) × (length v ≡ callLength kind)
+    lengths : lengthsFit (formOf kind) run v (length written) ≡ true → (length run ≡ filterLength) × (length v ≡ callLength kind)
     lengths e =
         let p = eqb (length run) filterLength in
         let q = eqb (length v) (callLength kind) in

@@ -7,13 +7,17 @@ use Rattle.drifters_entry.proofs.entry.nav_state.Statement.{statement}
 use Rattle.drifters_entry.proofs.entry.nav_state.Tie as tie
 
 returns : tie.Need-returns
-returns c = call-refused State _ [] _ (c .before .first-refusal .ensures) (c .if1 .taken)
+returns c =
+    let f = c .before in
+    call-refused State _ [] _ (rw (f .before .before .form-of .ensures) at (f .first-refusal .ensures)) (c .if1 .taken)
 
 -- where the call is not refused at first
 fits : (c : tie.Else1) →
-    let a = c .before .before .before .before .before .args in
+    let a = c .before .before .before .before .before .before .args in
     Passed State (a .run .now) [] (a .written .now)
-fits c = passed State _ [] _ (c .before .first-refusal .ensures) (c .if1 .left)
+fits c =
+    let f = c .before in
+    passed State _ [] _ (rw (f .before .before .form-of .ensures) at (f .first-refusal .ensures)) (c .if1 .left)
 
 returns-2 : tie.Need-returns-2
 returns-2 c =
@@ -24,6 +28,7 @@ pub nav-state-spec : {M : Type 1} → statement M
 nav-state-spec =
     tie.close
     (tie.spec
+    (λ c κs. tt)
     (λ c. search needs)
     (λ c κs. tt)
     returns
