@@ -12,7 +12,7 @@ use Rattle.drifters_entry.specs.Kind.{kindNumber, callLength, kindOf}
 use Rattle.drifters_entry.specs.declared.kind.Kind.{Kind}
 use Rattle.call_sheet.specs.declared.sheet.Filled.{Filled}
 use Rattle.call_sheet.specs.declared.sheet.Filled.the-variants.{Length, Refused}
-use Rattle.call_sheet.specs.Bytes.{u32At, u64sAt, placed}
+use Rattle.little_endian.specs.Bytes.{u32At, u64sAt, placed}
 
 -- ---- layout
 

@@ -4,13 +4,13 @@ ghost use Prim.Native.Nat.{_+_, _-_, _*_, _≤_};
 ghost use lib.ListN.{length};
 ghost use Rattle.drifters_matrix.specs.Matrix.{tab};
 ghost use Rattle.call_sheet.specs.Sheet.{kindAt, filterEnd, callsAt, readSheet, isSome, runs, readInto};
-use crate::bytes::u32_at;
-use crate::bytes::u64s_at;
 use drifters_entry::entry::FILTER_LENGTH;
 use drifters_entry::kind::FoundKind;
 use drifters_entry::kind::call_length;
 use drifters_entry::kind::kind_of;
 use drifters_eqf::filter::LENGTH_REFUSAL;
+use little_endian::bytes::u32_at;
+use little_endian::bytes::u64s_at;
 
 // The most entries of a sheet, the filter counted.
 const MOST_ENTRIES: usize = 256;

@@ -10,6 +10,7 @@ use lib.Ieee.{Float}
 use Rattle.drifters_matrix.specs.Matrix.{zeros}
 use Rattle.drifters_real.specs.Scalar.{plusZero}
 use Rattle.drifters_entry.specs.Entry.{Outcome, call}
+use Rattle.little_endian.proofs.Numbers.{numbers-in-place}
 use Rattle.drifters_entry.proofs.KindLaws.{call-most, written-most}
 use Rattle.call_sheet.proofs.run.run_call.Statement.{statement}
 use Rattle.call_sheet.proofs.run.run_call.Tie as tie
@@ -52,7 +53,7 @@ returns c =
     let w = made .before .before .before .before in
     let f = w .before .before in
     let a = f .before .before .before .before .args in
-    let numbers = take-at (f .numbers-of .last .1 .0) _ _ (filled f) ∙ f .numbers-of .ensures in
+    let numbers = take-at (f .numbers-of .last .1 .0) _ _ (filled f) ∙ f .numbers-of .ensures ∙ numbers-in-place _ _ (lent _ (few (f .before .before .before .before))) in
     let zeroed = ap (λ (m : ℕ). take m (zeros 33)) (w .written-length .ensures) ∙ take-zeros _ _ (written-most (a .kind)) in
     let outcome = made .call .ensures ∙ (λ i. call (a .kind) (a .run .now) (numbers i) (zeroed i)) in
     (ap (λ (o : Outcome). o .answer) outcome, ap (λ (o : Outcome). o .run) outcome)
@@ -63,7 +64,7 @@ run-call-spec =
     (tie.spec
     (λ c. few (c .before .before))
     (λ c. sym (lent _ (few (c .before .before .before))))
-    (λ c κs. lent _ (few (c .before .before .before)))
+    (λ c κs. tt)
     (λ c κs. tt)
     array-share-prefix-numbers
     slice-aggregate-call

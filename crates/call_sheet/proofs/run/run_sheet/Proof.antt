@@ -12,7 +12,8 @@ use lib.Ieee.{Float}
 use Rattle.drifters_entry.specs.Kind.{kindNumber}
 use Rattle.call_sheet.specs.declared.sheet.Filled.{Filled}
 use Rattle.call_sheet.specs.declared.sheet.Filled.the-variants.{Length, Refused}
-use Rattle.call_sheet.specs.Bytes.{placed}
+use Rattle.little_endian.specs.Bytes.{placed}
+use Rattle.little_endian.proofs.Numbers.{numbers-in-place}
 use Rattle.call_sheet.specs.Sheet.{Sheet, readSheet, mostCalls, kindsOf, bitsOf, Runs, runs, inRuns, isSome, callsIn, Held}
 use Rattle.call_sheet.specs.Text.{refusedLine, numbersOf, linesOf, textOf, sheetText, printed}
 use Rattle.call_sheet.proofs.Held.{sheetsHeld}
@@ -121,7 +122,8 @@ returns-2 c =
     let n = numbers .before .before .before .before in
     let test = n .before .before .before .before .before .before .before .before .before in
     let a = test .before .before .before .args in
-    let lines = text (here n) (numbers .numbers-of .ensures) in
+    let size = n .before .before .before .before .before .read-sheet .kept .1 .0 in
+    let lines = text (here n) (numbers .numbers-of .ensures ∙ numbers-in-place _ _ (sym size)) in
     let put = ran .run-calls in
     (λ i. printed (Length ((put .ensures .0 ∙ ap length lines) i)) ((put .ensures .1 ∙ ap (placed (a .text .now) 0) lines) i))
     ∙ sym (room (a .s .now) (a .text .now) (test .if1 .left))
@@ -150,7 +152,7 @@ run-sheet-spec =
     (λ c. search needs)
     (λ c. sym (c .before .before .before .before .before .before .before .read-sheet .kept .1 .0))
     (λ c. refl)
-    (λ c κs. sym (c .before .before .before .before .before .before .before .before .read-sheet .kept .1 .0))
+    (λ c κs. tt)
     (λ c. sym (c .before .before .numbers-of .kept .1 .0))
     array-share-prefix-kinds
     (λ c. sym (size (here (c .before .before .before .before .before .before .before))))

@@ -1,11 +1,11 @@
--- `bytes::byte_at` meets its contract.
+-- `bytes::byte_in` meets its contract.
 use mathlib.Core.Path.{refl}
 use native.Mathlib.Omega.{arith}
-use Rattle.call_sheet.proofs.bytes.byte_at.Statement.{statement}
-use Rattle.call_sheet.proofs.bytes.byte_at.Tie as tie
+use Rattle.little_endian.proofs.bytes.byte_in.Statement.{statement}
+use Rattle.little_endian.proofs.bytes.byte_in.Tie as tie
 
-pub byte-at-spec : {M : Type 1} → statement M
-byte-at-spec =
+pub byte-in-spec : {M : Type 1} → statement M
+byte-in-spec =
     tie.close
     (tie.spec
     (λ c. omega arith)

@@ -1,4 +1,4 @@
--- `run::number_of` meets its contract.
+-- `bits::number_of` meets its contract.
 use mathlib.Core.Path.{_≡_, refl, sym, _∙_, subst}
 use mathlib.Core.Bool.{Bool, true, false, not, false≢true}
 use Prim.Native.Nat.{ℕ, _%_, _≤_, _<_}
@@ -6,8 +6,8 @@ use borrow.Author.Tests.{lt-ltb, le-ltb}
 use lib.Dec.{T}
 use lib.Ieee.{Float, nan, inf, fin, binary64, ofBits, ofFields, odd, div, nanBits, isNan}
 use lib.Ieee.Bits.{nanBits-is, nanBits-above}
-use Rattle.call_sheet.proofs.run.number_of.Statement.{statement}
-use Rattle.call_sheet.proofs.run.number_of.Tie as tie
+use Rattle.little_endian.proofs.bits.number_of.Statement.{statement}
+use Rattle.little_endian.proofs.bits.number_of.Tie as tie
 
 only-nan : (x : Float) → isNan x ≡ true → x ≡ nan
 unfolding isNan

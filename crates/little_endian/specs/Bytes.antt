@@ -1,12 +1,12 @@
--- Numbers in bytes, lowest first, and numbers in text, highest digit first. Definitions only.
+-- Whole numbers in bytes, lowest byte first. Definitions only.
 use Prim.Native.Nat.{ℕ, zero, suc, _+_, _*_, _/_, _%_, _^_}
 use mathlib.Core.Bool.{cond}
 use mathlib.Core.List.{List, [], _∷_, _++_}
-use lib.Dec.{ltb}
+use lib.Dec.{leb}
 use lib.ListN.{length, take, drop, getD}
 use Rattle.drifters_matrix.specs.Matrix.{tab}
 
--- the byte at a place
+-- the byte at a place, 0 past the end
 abbrev pub byteAt : List ℕ → ℕ → ℕ
 byteAt s i = getD s i 0
 
@@ -22,19 +22,15 @@ u64At s i = u32At s i + 2 ^ 32 * u32At s (i + 4)
 unfoldable pub u64sAt : ℕ → List ℕ → ℕ → List ℕ
 u64sAt n s i = tab n (λ k. u64At s (i + 8 * k))
 
+-- the k lowest bytes of a number
+abbrev pub bytesOf : ℕ → ℕ → List ℕ
+bytesOf zero n = []
+bytesOf (suc k) n = n % 256 ∷ bytesOf k (n / 256)
+
 -- a run with others in the places from p on; its other places stay
 unfoldable pub placed : List ℕ → ℕ → List ℕ → List ℕ
 placed run p others = take p run ++ others ++ drop (p + length others) run
 
--- a digit in text: 0 to 9, then A to F
-abbrev pub digit : ℕ → ℕ
-digit d = cond (ltb d 10) (48 + d) (55 + d)
-
--- the last k digits of n in base b
-unfoldable pub digits : ℕ → ℕ → ℕ → List ℕ
-digits b zero n = []
-digits b (suc k) n = digits b k (n / b) ++ (digit (n % b) ∷ [])
-
--- a number in decimal: one below 1000 without leading zeros, of a larger one the last three digits
-unfoldable pub decimal : ℕ → List ℕ
-decimal n = digits 10 (cond (ltb n 10) 1 (cond (ltb n 100) 2 3)) n
+-- a run with a u32 in the four bytes from a place on; where it does not fit, the run as it was
+unfoldable pub withU32 : List ℕ → ℕ → ℕ → List ℕ
+withU32 run p n = cond (leb (p + 4) (length run)) (placed run p (bytesOf 4 n)) run

@@ -1,13 +1,13 @@
--- `bytes::u64s_at` meets its contract.
+-- `bytes::u64s_in` meets its contract.
 use mathlib.Core.Path.{_≡_, refl, sym}
 use mathlib.Core.List.{List}
 use Prim.Native.Nat.{ℕ, _+_, _*_, _-_, _≤_}
 use native.Mathlib.Omega.{arith}
 use lib.ListN.{length, length-set}
 use Rattle.drifters_matrix.proofs.Matrix.Tab.{front, front-zero, step-set, step-done}
-use Rattle.call_sheet.specs.Bytes.{u64At, u64sAt}
-use Rattle.call_sheet.proofs.bytes.u64s_at.Statement.{statement}
-use Rattle.call_sheet.proofs.bytes.u64s_at.Tie as tie
+use Rattle.little_endian.specs.Bytes.{u64At, u64sAt}
+use Rattle.little_endian.proofs.bytes.u64s_in.Statement.{statement}
+use Rattle.little_endian.proofs.bytes.u64s_in.Tie as tie
 
 -- the u64 for place k
 abbrev value : List ℕ → ℕ → ℕ → ℕ
@@ -23,7 +23,7 @@ loop-again : tie.Need-loop-again Inv-loop μ-loop
 loop-again c =
     let loop = c .before .before .loop in
     let args = c .before .before .before .before .before .args in
-    let wrote = step-set (loop .i) (value (args .s .now) (args .at)) (args .out .now) (loop .inv .1 .1) (omega arith) (c .u64-at .ensures) in
+    let wrote = step-set (loop .i) (value (args .s .now) (args .at)) (args .out .now) (loop .inv .1 .1) (omega arith) (c .u64-in .ensures) in
     (omega arith, (simp length-set (loop .inv .1 .0), wrote))
 
 returns : tie.Need-returns Inv-loop μ-loop
@@ -33,8 +33,8 @@ returns c =
     let args = c .before .before .before .before .args in
     step-done (loop .i) (value (args .s .now) (args .at)) (args .out .now) (loop .inv .1 .1) (omega arith)
 
-pub u64s-at-spec : {M : Type 1} → statement M
-u64s-at-spec =
+pub u64s-in-spec : {M : Type 1} → statement M
+u64s-in-spec =
     tie.close
     (tie.spec
     Inv-loop

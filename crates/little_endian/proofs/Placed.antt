@@ -1,13 +1,14 @@
 -- The laws of `placed`. Assumes nothing.
-use Prim.Native.Nat.{ℕ, _+_, _≤_}
+use Prim.Native.Nat.{ℕ, _+_, _≤_, _<_}
 use mathlib.Core.Path.{_≡_, sym, ap, _∙_}
 use mathlib.Core.List.{List, [], _++_, append-assoc, append-nil}
 use native.Mathlib.Nat.{add-zero}
+use native.Mathlib.Numerals.{add-one}
 use native.Mathlib.Omega.{arith}
 use borrow.Rule.Slice.PartMut.{putMid}
-use lib.ListN.{length, take, drop, length-append, length-drop, take-append-drop}
-use lib.Seq.{length-take-le, take-at, drop-append-add, drop-drop}
-use Rattle.call_sheet.specs.Bytes.{placed}
+use lib.ListN.{length, getD, set, take, drop, length-append, length-drop, take-append-drop}
+use lib.Seq.{length-take-le, take-at, drop-append-add, drop-drop, paste, paste-suc, take-length}
+use Rattle.little_endian.specs.Bytes.{placed}
 
 -- nothing is placed
 pub placed-none : (run : List ℕ) (p : ℕ) → placed run p [] ≡ run
@@ -64,3 +65,17 @@ put-then {run} {mid} {out} {a} {p} {q} {r} b g e f =
       until = e ∙ omega (arith, g .until, length-append a b);
       is = f ∙ (λ i. placed (g .is i) (g .until i) b) ∙ placed-after run p a b (g .within);
     }
+
+-- ---- one place after another
+
+-- one more of the others is stored
+pub paste-step : (run out others : List ℕ) (at i : ℕ) → out ≡ paste run at others i → at + i < length run → i < length others →
+    set out (at + i) (getD others i 0) ≡ paste run at others (i + 1)
+paste-step run out others at i e h g =
+    ap (λ (l : List ℕ). set l (at + i) (getD others i 0)) e ∙ paste-suc run at others i 0 h g ∙ ap (paste run at others) (sym (add-one i))
+
+-- all are stored
+pub paste-done : (run out others : List ℕ) (at i : ℕ) → out ≡ paste run at others i → i ≡ length others → out ≡ placed run at others
+unfolding placed
+paste-done run out others at i e g =
+    e ∙ ap (paste run at others) g ∙ ap (λ (l : List ℕ). take at run ++ l ++ drop (at + length others) run) (take-length others)

@@ -1,14 +1,14 @@
--- `bytes::u32_at` meets its contract.
+-- `bytes::u32_in` meets its contract.
 use borrow.Author.Needs.{needs}
-use Rattle.call_sheet.proofs.bytes.u32_at.Statement.{statement}
-use Rattle.call_sheet.proofs.bytes.u32_at.Tie as tie
+use Rattle.little_endian.proofs.bytes.u32_in.Statement.{statement}
+use Rattle.little_endian.proofs.bytes.u32_in.Tie as tie
 
 -- the four bytes, the first the lowest
 returns : tie.Need-returns
 returns c = search needs
 
-pub u32-at-spec : {M : Type 1} → statement M
-u32-at-spec =
+pub u32-in-spec : {M : Type 1} → statement M
+u32-in-spec =
     tie.close
     (tie.spec
     (λ c κs. search needs)

@@ -1,11 +1,11 @@
--- `text::bits_of` meets its contract.
+-- `bits::bits_of` meets its contract.
 use mathlib.Core.Path.{_≡_, refl, sym, ap, _∙_, subst}
 use mathlib.Core.Bool.{Bool, not}
 use lib.Dec.{T}
 use lib.Ieee.{nan, binary64, toBits}
 use Rattle.drifters_real.proofs.Real.NotANumber.{only-nan, no-nan}
-use Rattle.call_sheet.proofs.text.bits_of.Statement.{statement}
-use Rattle.call_sheet.proofs.text.bits_of.Tie as tie
+use Rattle.little_endian.proofs.bits.bits_of.Statement.{statement}
+use Rattle.little_endian.proofs.bits.bits_of.Tie as tie
 
 -- the one pattern of what is not a number
 nan-pattern : 0x7ff8_0000_0000_0000 ≡ toBits binary64 nan

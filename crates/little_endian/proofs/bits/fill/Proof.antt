@@ -1,4 +1,4 @@
--- `run::numbers_of` meets its contract.
+-- `bits::fill` meets its contract.
 use mathlib.Core.Path.{_≡_, refl, sym, ap, _∙_}
 use mathlib.Core.List.{List, map}
 use Prim.Native.Nat.{ℕ, _-_, _≤_}
@@ -9,9 +9,9 @@ use lib.Seq.{ext-getD}
 use lib.Ieee.{Float, binary64, ofBits}
 use Rattle.drifters_matrix.specs.Matrix.{tab}
 use Rattle.drifters_matrix.proofs.Matrix.Tab.{length-tab, getD-tab, front, front-zero, step-set, step-done}
-use Rattle.call_sheet.specs.Text.{numbersOf}
-use Rattle.call_sheet.proofs.run.numbers_of.Statement.{statement}
-use Rattle.call_sheet.proofs.run.numbers_of.Tie as tie
+use Rattle.little_endian.specs.Bits.{numbersOf}
+use Rattle.little_endian.proofs.bits.fill.Statement.{statement}
+use Rattle.little_endian.proofs.bits.fill.Tie as tie
 
 -- the number of the pattern at a place
 abbrev numberAt : List ℕ → ℕ → Float
@@ -41,8 +41,8 @@ returns c =
     let s = c .before .before .before .before in
     step-done (l .i) _ _ (l .inv .2) (omega arith) ∙ ap (λ (n : ℕ). tab n (numberAt (s .args .bits .now))) (s .pre) ∙ numbers-tab (s .args .bits .now)
 
-pub numbers-of-spec : {M : Type 1} → statement M
-numbers-of-spec =
+pub fill-spec : {M : Type 1} → statement M
+fill-spec =
     tie.close
     (tie.spec
     Inv-loop
