@@ -130,7 +130,7 @@ pub record Runs : Type 0 where
 abbrev pub runs : Filled → List ℕ → List ℕ → List ℕ → Runs
 runs answer filter kinds numbers = record { answer = answer; filter = filter; kinds = kinds; numbers = numbers }
 
--- the runs are of their stated lengths: 478, and at least 255 and 8192, which hold every sheet
+-- the runs are of their stated lengths, the last two at least, which hold every sheet
 abbrev pub runsFit : List ℕ → List ℕ → List ℕ → Bool
 runsFit filter kinds numbers = eqb (length filter) filterLength && leb mostCalls (length kinds) && leb mostNumbers (length numbers)
 

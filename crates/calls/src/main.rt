@@ -7,6 +7,9 @@ use drifters_entry::entry::STATE_LENGTH;
 use drifters_eqf::filter::Answer;
 use libc::STDOUT_FILENO;
 
+// The last number of a start: gravity downwards.
+const LAST: usize = START_LENGTH - 1;
+
 // A line: what was called, and its answer.
 fn report(called: &[u8], answer: Answer) {
     let text = answer_text(answer);
@@ -29,7 +32,7 @@ fn start_numbers() -> [f64; START_LENGTH] {
     for i in 0..21 {
         v[STATE_LENGTH + 22 * i] = 1.0;
     }
-    v[START_LENGTH - 1] = 9.81;
+    v[LAST] = 9.81;
     v
 }
 
