@@ -1,6 +1,6 @@
 -- The law of `withNumbers`. Assumes nothing.
 use Prim.Native.Nat.{ℕ}
-use mathlib.Core.Path.{_≡_, refl}
+use mathlib.Core.Path.{_≡_}
 use mathlib.Core.List.{List}
 use borrow.Author.Tests.{eq-eqb}
 use lib.ListN.{length}

@@ -1,5 +1,4 @@
 -- `bits::numbers_of` meets its contract.
-use mathlib.Core.Path.{_≡_, refl}
 use borrow.Author.Needs.{needs}
 use borrow.Author.Tests.{eq-eqb, ne-eqb}
 use Rattle.little_endian.specs.Bits.{withNumbers}

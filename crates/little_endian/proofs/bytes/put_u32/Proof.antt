@@ -1,5 +1,5 @@
 -- `bytes::put_u32` meets its contract.
-use mathlib.Core.Path.{_≡_, refl, sym, _∙_}
+use mathlib.Core.Path.{sym, _∙_}
 use borrow.Author.Needs.{needs}
 use borrow.Author.Tests.{leb-true}
 use Rattle.little_endian.specs.Bytes.{withU32}
