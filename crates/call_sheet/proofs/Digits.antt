@@ -15,7 +15,7 @@ use Rattle.drifters_eqf.specs.declared.filter.Answer.the-variants.{Nis, Fine, R
 use Rattle.drifters_entry.specs.declared.kind.Kind.{Kind}
 use Rattle.drifters_entry.proofs.KindLaws.{number-digit}
 use Rattle.call_sheet.specs.declared.text.Text.{Text}
-use Rattle.call_sheet.specs.Bytes.{digit, digits, decimal}
+use Rattle.call_sheet.specs.Digits.{digit, digits, decimal}
 use Rattle.call_sheet.specs.Text.{answerText}
 
 pub length-digits : (b k n : ℕ) → length (digits b k n) ≡ k

@@ -1,5 +1,4 @@
 -- The theorems of the sheet, and the laws that their proofs share.
-pub mod Placed
 pub mod Digits
 pub mod SheetLayout
 pub mod Held

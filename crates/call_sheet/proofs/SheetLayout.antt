@@ -20,7 +20,7 @@ use Rattle.drifters_entry.specs.Layout.{filterLength}
 use Rattle.drifters_entry.specs.declared.kind.Kind.{Kind}
 use Rattle.drifters_entry.proofs.KindLaws.{kindsFound, number-of-kind}
 use Rattle.call_sheet.specs.declared.sheet.Filled.the-variants.{Refused}
-use Rattle.call_sheet.specs.Bytes.{u64At, u64sAt}
+use Rattle.little_endian.specs.Bytes.{u64At, u64sAt}
 use Rattle.call_sheet.specs.Sheet.{
   mostEntries,
   mostBytes,

@@ -11,13 +11,13 @@ use lib.Seq.{length-take-le}
 use Rattle.drifters_eqf.specs.Answer.{lengthRefusal, sheetRefusal}
 use Rattle.call_sheet.specs.declared.sheet.Filled.{Filled}
 use Rattle.call_sheet.specs.declared.sheet.Filled.the-variants.{Length, Refused}
-use Rattle.call_sheet.specs.Bytes.{placed}
+use Rattle.little_endian.specs.Bytes.{placed}
 use Rattle.call_sheet.specs.Sheet.{Sheet, readSheet}
 use Rattle.call_sheet.specs.Text.{refusedText, newline, numbersOf, textOf, sheetText, mostText, TextFits, Printed, printed, printInto}
 use Rattle.call_sheet.proofs.Held.{sheetsHeld}
 use Rattle.call_sheet.proofs.Digits.{decimal-short}
 use Rattle.call_sheet.proofs.Lines.{lines-short}
-use Rattle.call_sheet.proofs.Placed.{length-placed}
+use Rattle.little_endian.proofs.Placed.{length-placed}
 
 pub textFits : TextFits
 unfolding sheetText

@@ -1,6 +1,6 @@
 -- Readings of the sheet's layout and text: one table, and one theorem. A file that is refused differs in one field from one that is taken.
 -- Definitions and statements only.
-use Prim.Native.Nat.{ℕ, suc, _+_, _-_, _*_, _/_, _%_}
+use Prim.Native.Nat.{ℕ, suc, _+_, _-_, _*_}
 use mathlib.Core.Bool.{Bool, true, false, cond}
 use mathlib.Core.List.{List, [], _∷_, _++_}
 use lib.ListN.{length, replicate}
@@ -9,6 +9,7 @@ use Rattle.drifters_eqf.specs.declared.filter.Answer.the-variants.{Nis, Fine, R
 use Rattle.drifters_entry.specs.Layout.{filterLength}
 use Rattle.drifters_entry.specs.Kind.{kindNumber, callLength, allKinds}
 use Rattle.drifters_entry.specs.declared.kind.Kind.the-variants.{Position, State}
+use Rattle.little_endian.specs.Bytes.{bytesOf}
 use Rattle.drifters_real.specs.Reading.{Reading, reads, AsStated}
 use Rattle.call_sheet.specs.Sheet.{tableBytes, filterEnd, headerFits, readSheet, isSome}
 use Rattle.call_sheet.specs.Text.{lineText, sheetText}
@@ -17,9 +18,9 @@ use Rattle.call_sheet.specs.Text.{lineText, sheetText}
 abbrev pub truth : Bool → List ℕ
 truth b = cond b 1 0 ∷ []
 
--- a number below 65536 in the four bytes of a u32
+-- a number in the four bytes of a u32
 abbrev pub u32 : ℕ → List ℕ
-u32 n = n % 256 ∷ n / 256 ∷ 0 ∷ 0 ∷ []
+u32 n = bytesOf 4 n
 
 -- an entry of the table: its kind, and the offset of its body
 abbrev pub entry : ℕ → ℕ → List ℕ

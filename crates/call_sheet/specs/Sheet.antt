@@ -12,7 +12,7 @@ use Rattle.drifters_entry.specs.Kind.{kindNumber, callLength, kindOf}
 use Rattle.drifters_entry.specs.declared.kind.Kind.{Kind}
 use Rattle.call_sheet.specs.declared.sheet.Filled.{Filled}
 use Rattle.call_sheet.specs.declared.sheet.Filled.the-variants.{Length, Refused}
-use Rattle.call_sheet.specs.Bytes.{u32At, u64sAt, placed}
+use Rattle.little_endian.specs.Bytes.{u32At, u64sAt, placed}
 
 -- ---- layout
 
@@ -130,7 +130,7 @@ pub record Runs : Type 0 where
 abbrev pub runs : Filled → List ℕ → List ℕ → List ℕ → Runs
 runs answer filter kinds numbers = record { answer = answer; filter = filter; kinds = kinds; numbers = numbers }
 
--- the runs are of their stated lengths: 478, and at least 255 and 8192, which hold every sheet
+-- the runs are of their stated lengths, the last two at least, which hold every sheet
 abbrev pub runsFit : List ℕ → List ℕ → List ℕ → Bool
 runsFit filter kinds numbers = eqb (length filter) filterLength && leb mostCalls (length kinds) && leb mostNumbers (length numbers)
 

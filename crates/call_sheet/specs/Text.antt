@@ -5,7 +5,8 @@ use mathlib.Core.List.{List, [], _∷_, _++_, map}
 use mathlib.Core.Option.{Option, none, some}
 use lib.Dec.{leb}
 use lib.ListN.{length}
-use lib.Ieee.{Float, binary64, ofBits, toBits}
+use lib.Ieee.{Float, binary64, toBits}
+unfoldable pub use Rattle.little_endian.specs.Bits.{numbersOf}
 use Rattle.drifters_eqf.specs.Answer.{lengthRefusal, sheetRefusal}
 use Rattle.drifters_entry.specs.Kind.{kindNumber}
 use Rattle.drifters_entry.specs.Log.{Call, LogEntry, Log, entriesFrom, logOf}
@@ -14,7 +15,8 @@ use Rattle.drifters_eqf.specs.declared.filter.Answer.the-variants.{Nis, Fine, R
 use Rattle.drifters_entry.specs.declared.kind.Kind.{Kind}
 use Rattle.call_sheet.specs.declared.sheet.Filled.{Filled}
 use Rattle.call_sheet.specs.declared.sheet.Filled.the-variants as filled
-use Rattle.call_sheet.specs.Bytes.{placed, digits, decimal}
+use Rattle.little_endian.specs.Bytes.{placed}
+use Rattle.call_sheet.specs.Digits.{digits, decimal}
 use Rattle.call_sheet.specs.Sheet.{SheetCall, Sheet, readSheet}
 
 -- ` `
@@ -46,10 +48,6 @@ answerText (Refused n) = refusedText n
 -- the line of entry i: index, kind, answer
 unfoldable pub lineText : ℕ → Kind → Answer → List ℕ
 lineText i kind a = decimal i ++ space ++ decimal (kindNumber kind) ++ space ++ answerText a ++ newline
-
--- numbers by their bits
-unfoldable pub numbersOf : List ℕ → List Float
-numbersOf bits = map (ofBits binary64) bits
 
 -- a call of a sheet, as a call
 abbrev pub callOf : SheetCall → Call

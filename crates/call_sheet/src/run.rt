@@ -3,12 +3,11 @@ ghost use mathlib.Core.Path.{_≡_};
 ghost use mathlib.Core.Bool.{true};
 ghost use Prim.Native.Nat.{_+_, _*_, _≤_};
 ghost use lib.ListN.{length, take};
-ghost use lib.Ieee.{binary64, ofBits};
 ghost use Rattle.drifters_entry.specs.Kind.{callLength};
 ghost use Rattle.drifters_entry.specs.Log.{outcomeOn};
-ghost use Rattle.call_sheet.specs.Bytes.{placed};
+ghost use Rattle.little_endian.specs.Bytes.{placed};
 ghost use Rattle.call_sheet.specs.Sheet.{sheetCall, isSome, callsIn};
-ghost use Rattle.call_sheet.specs.Text.{refusedLine, numbersOf, callOf, linesOf, sheetText, printed, printInto};
+ghost use Rattle.call_sheet.specs.Text.{refusedLine, callOf, linesOf, sheetText, printed, printInto};
 use crate::sheet::Filled;
 use crate::sheet::MOST_CALLS;
 use crate::sheet::MOST_NUMBERS;
@@ -27,6 +26,7 @@ use drifters_entry::kind::kind_of;
 use drifters_entry::kind::written_length;
 use drifters_eqf::filter::Answer;
 use drifters_eqf::filter::LENGTH_REFUSAL;
+use little_endian::bits::numbers_of;
 
 // Room for every sheet's text: 23 bytes for each of 255 calls.
 pub const MOST_TEXT: usize = 5865;
@@ -102,24 +102,4 @@ fn run_call(kind: Kind, run: &mut [f64], bits: &[u64]) -> Answer
     let mut state = [0.0; STATE_LENGTH];
     let m = written_length(kind);
     call(kind, run, &numbers[..n], &mut state[..m])
-}
-
-// The numbers of bit patterns.
-fn numbers_of(bits: &[u64], out: &mut [f64])
-    requires { ⌜ length (now out) ≡ length (now bits) ⌝ }
-    ensures { λ _. ⌜ now (out .exit) ≡ numbersOf (now (bits .entry)) ⌝ }
-{
-    for i in 0..bits.len() {
-        out[i] = number_of(bits[i]);
-    }
-}
-
-// The number of a bit pattern; the patterns of what is not a number give one such.
-pub fn number_of(bits: u64) -> f64
-    ensures { λ r. ⌜ r ≡ ofBits binary64 bits ⌝ }
-{
-    if 0x7ff0_0000_0000_0000 < bits % 0x8000_0000_0000_0000 {
-        return 0.0 / 0.0;
-    }
-    f64::from_bits(bits)
 }

@@ -3,14 +3,14 @@ ghost use mathlib.Core.Path.{_≡_};
 ghost use Prim.Native.Nat.{_+_, _-_, _*_, _≤_};
 ghost use lib.ListN.{length};
 ghost use Rattle.drifters_matrix.specs.Matrix.{tab};
-ghost use Rattle.call_sheet.specs.Sheet.{kindAt, filterEnd, callsAt, readSheet, isSome, runs, readInto};
-use crate::bytes::u32_at;
-use crate::bytes::u64s_at;
+ghost use Rattle.call_sheet.specs.Sheet.{mostEntries, kindAt, filterEnd, callsAt, readSheet, isSome, runs, readInto};
 use drifters_entry::entry::FILTER_LENGTH;
 use drifters_entry::kind::FoundKind;
 use drifters_entry::kind::call_length;
 use drifters_entry::kind::kind_of;
 use drifters_eqf::filter::LENGTH_REFUSAL;
+use little_endian::bytes::u32_at;
+use little_endian::bytes::u64s_at;
 
 // The most entries of a sheet, the filter counted.
 const MOST_ENTRIES: usize = 256;
@@ -75,7 +75,7 @@ fn is_sheet(s: &[u8]) -> bool
 
 // Whether the entries after the filter are calls whose bodies follow each other to the end of the file.
 fn calls_fit(s: &[u8], n: usize) -> bool
-    requires { ⌜ (1 ≤ n) × (n ≤ 256) × (filterEnd n ≤ length (now s)) ⌝ }
+    requires { ⌜ (1 ≤ n) × (n ≤ mostEntries) × (filterEnd n ≤ length (now s)) ⌝ }
     ensures { λ r. ⌜ r ≡ isSome (callsAt (n - 1) 1 (now (s .entry)) (filterEnd n)) ⌝ }
 {
     let mut place = 4 + 8 * n + 8 * FILTER_LENGTH;

@@ -3,13 +3,14 @@ ghost use mathlib.Core.Path.{_≡_};
 ghost use Prim.Native.Nat.{_+_, _-_, _≤_, _<_};
 ghost use mathlib.Core.List.{_++_};
 ghost use lib.ListN.{length, replicate};
-ghost use lib.Ieee.{binary64, toBits};
 ghost use Rattle.drifters_entry.specs.Kind.{kindNumber};
-ghost use Rattle.call_sheet.specs.Bytes.{placed, digit, digits, decimal};
+ghost use Rattle.little_endian.specs.Bytes.{placed};
+ghost use Rattle.call_sheet.specs.Digits.{digit, digits, decimal};
 ghost use Rattle.call_sheet.specs.Text.{refusedText, answerText, lineText};
 use drifters_entry::kind::Kind;
 use drifters_entry::kind::form_of;
 use drifters_eqf::filter::Answer;
+use little_endian::bits::bits_of;
 
 // Text of at most 16 bytes: the first `length` of them; the others are 0.
 pub struct Text {
@@ -152,14 +153,4 @@ fn digit(d: u64) -> u8
         return (48 + d) as u8;
     }
     (55 + d) as u8
-}
-
-// The bits of a number; all that are not numbers have one pattern.
-fn bits_of(x: f64) -> u64
-    ensures { λ r. ⌜ r ≡ toBits binary64 x ⌝ }
-{
-    if x != x {
-        return 0x7ff8_0000_0000_0000;
-    }
-    f64::to_bits(x)
 }

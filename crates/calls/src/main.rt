@@ -1,8 +1,14 @@
 // Makes one call of each kind on a filter, and one refusal of each number that a call can give, and prints the answers.
 use call_sheet::text::answer_text;
 use drifters_entry::entry;
+use drifters_entry::entry::FILTER_LENGTH;
+use drifters_entry::entry::START_LENGTH;
+use drifters_entry::entry::STATE_LENGTH;
 use drifters_eqf::filter::Answer;
 use libc::STDOUT_FILENO;
+
+// The last number of a start: gravity downwards.
+const LAST: usize = START_LENGTH - 1;
 
 // A line: what was called, and its answer.
 fn report(called: &[u8], answer: Answer) {
@@ -15,8 +21,8 @@ fn report(called: &[u8], answer: Answer) {
 }
 
 // The numbers of a start: at rest at the origin, covariance 1 in each place of the diagonal, gravity downwards.
-fn start_numbers() -> [f64; 477] {
-    let mut v = [0.0; 477];
+fn start_numbers() -> [f64; START_LENGTH] {
+    let mut v = [0.0; START_LENGTH];
     v[0] = 1.0;
     v[4] = 1.0;
     v[8] = 1.0;
@@ -24,9 +30,9 @@ fn start_numbers() -> [f64; 477] {
     v[28] = 1.0;
     v[32] = 1.0;
     for i in 0..21 {
-        v[33 + 22 * i] = 1.0;
+        v[STATE_LENGTH + 22 * i] = 1.0;
     }
-    v[476] = 9.81;
+    v[LAST] = 9.81;
     v
 }
 
@@ -106,7 +112,7 @@ fn update(run: &mut [f64]) {
 }
 
 fn nav_state(run: &[f64]) {
-    let mut state = [0.0; 33];
+    let mut state = [0.0; STATE_LENGTH];
     report(b"nav_state", entry::nav_state(run, &mut state));
 }
 
@@ -114,7 +120,7 @@ fn nav_state(run: &[f64]) {
 // is infinite, a turn above 8, noise below 0, densities that overflow; and an update of the filter that these left as it was. A refusal 6 is a
 // call sheet's.
 fn main() {
-    let mut run = [0.0; 478];
+    let mut run = [0.0; FILTER_LENGTH];
     start(&mut run);
     propagate(&mut run, 0.02, 0.01, 0.001);
     update_position(&mut run, 0.01);

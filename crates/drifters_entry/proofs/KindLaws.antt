@@ -6,7 +6,6 @@ use mathlib.Core.List.{List, [], _∷_}
 use mathlib.Core.Option.{Option, none, some, Option·some-injective}
 use borrow.Author.Tests.{eqb-true, leb-true, ltb-true}
 use lib.Dec.{eqb, leb, ltb}
-use lib.ListN.{length}
 use lib.Ieee.{Float}
 use Rattle.drifters_eqf.specs.declared.filter.EqFilter.{EqFilter}
 use Rattle.drifters_entry.specs.Layout.{stateLength}
@@ -112,16 +111,6 @@ call-most kind = leb-true _ _ (every-kind (λ k. leb (callLength k) mostCallNumb
 pub written-most : (kind : Kind) → writtenLength kind ≤ stateLength
 unfolding every
 written-most kind = leb-true _ _ (every-kind (λ k. leb (writtenLength k) stateLength) refl kind)
-
--- the numbers of kinds begin with 1
-pub number-least : (kind : Kind) → 1 ≤ kindNumber kind
-unfolding every
-number-least kind = leb-true _ _ (every-kind (λ k. leb 1 (kindNumber k)) refl kind)
-
--- and end with how many kinds there are
-pub number-most : (kind : Kind) → kindNumber kind ≤ length allKinds
-unfolding every
-number-most kind = leb-true _ _ (every-kind (λ k. leb (kindNumber k) (length allKinds)) refl kind)
 
 -- the number of a kind has one digit
 pub number-digit : (kind : Kind) → kindNumber kind < 10

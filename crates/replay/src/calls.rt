@@ -1,36 +1,37 @@
 // The calls of a sheet, made in turn and compared with the original's stored answers.
 ghost use Prim.Native.Nat.{_+_, _≤_};
 ghost use lib.ListN.{length};
+ghost use Rattle.drifters_entry.specs.Kind.{mostCallNumbers};
 use crate::files::read_named;
-use call_sheet::run::number_of;
 use call_sheet::sheet::Filled;
 use call_sheet::sheet::MOST_BYTES;
 use call_sheet::sheet::MOST_CALLS;
-use call_sheet::sheet::kind_of;
 use call_sheet::sheet::read_sheet;
 use drifters_entry::entry::FILTER_LENGTH;
-use drifters_entry::entry::call_length;
+use drifters_entry::kind::FoundKind;
+use drifters_entry::kind::MOST_CALL_NUMBERS;
+use drifters_entry::kind::call_length;
+use drifters_entry::kind::kind_of;
+use little_endian::bits::numbers_of;
 use replay_lists::call_digest::ANSWER_BYTES;
-use replay_lists::calls::MOST_CALL_NUMBERS;
 use replay_lists::calls::run_call;
 use replay_lists::tally::Tally;
 use replay_lists::tally::unread;
 
-// Room for 256 calls of 75 numbers: more than a sheet holds, so that the place of each of its calls is seen to lie in it.
-const ROOM: usize = 19200;
+// Room for 256 calls of the most numbers: more than a sheet holds, so that the place of each of its calls is seen to lie in it.
+const ROOM: usize = 256 * MOST_CALL_NUMBERS;
 
 // The bits from a place on, as numbers.
-fn numbers_of(bits: &[u64; ROOM], at: usize) -> [f64; MOST_CALL_NUMBERS]
-    requires { ⌜ at + 75 ≤ 19200 ⌝ }
+fn numbers_from(bits: &[u64], at: usize) -> [f64; MOST_CALL_NUMBERS]
+    requires { ⌜ at + mostCallNumbers ≤ length (now bits) ⌝ }
 {
     let mut numbers = [0.0; MOST_CALL_NUMBERS];
-    for i in 0..MOST_CALL_NUMBERS {
-        numbers[i] = number_of(bits[at + i]);
-    }
+    let end = at + MOST_CALL_NUMBERS;
+    numbers_of(&bits[at..end], &mut numbers);
     numbers
 }
 
-// Makes the first n calls in turn, each on the filter that the one before it left.
+// Makes the first n calls in turn, each on the filter that the one before it left. It ends at a number that is of no kind, which no sheet has.
 fn run_calls(
     run: &mut [f64],
     kinds: &[u32; MOST_CALLS],
@@ -43,8 +44,10 @@ fn run_calls(
     let mut t = Tally::none();
     let mut at = 0;
     for i in 0..n {
-        let kind = kind_of(kinds[i]);
-        let given = run_call(kind, run, numbers_of(bits, at));
+        let FoundKind::Known(kind) = kind_of(kinds[i]) else {
+            return t;
+        };
+        let given = run_call(kind, run, numbers_from(bits, at));
         t = t.compare(given, answers, ANSWER_BYTES * i);
         at += call_length(kind);
     }
@@ -54,9 +57,7 @@ fn run_calls(
 // The filter of a sheet.
 fn filter_of(bits: &[u64; FILTER_LENGTH]) -> [f64; FILTER_LENGTH] {
     let mut run = [0.0; FILTER_LENGTH];
-    for i in 0..FILTER_LENGTH {
-        run[i] = number_of(bits[i]);
-    }
+    numbers_of(bits, &mut run);
     run
 }
 

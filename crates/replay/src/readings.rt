@@ -1,9 +1,17 @@
 // Document 01's readings that have no star: the lengths of the runs, and the text of sheets.
-ghost use Prim.Native.Nat.{_≤_};
+ghost use mathlib.Core.Path.{_≡_};
+ghost use Prim.Native.Nat.{_+_, _≤_};
+ghost use Rattle.drifters_entry.specs.Kind.{callLength};
 use crate::calls::sheet_room;
 use call_sheet::run::MOST_TEXT;
 use call_sheet::run::sheet_text;
 use drifters_entry::entry;
+use drifters_entry::entry::FILTER_LENGTH;
+use drifters_entry::entry::START_LENGTH;
+use drifters_entry::entry::STATE_LENGTH;
+use drifters_entry::kind::Kind;
+use drifters_entry::kind::MOST_CALL_NUMBERS;
+use drifters_entry::kind::call_length;
 use drifters_eqf::filter::Answer;
 use drifters_eqf::filter::LENGTH_REFUSAL;
 use libc::STDOUT_FILENO;
@@ -21,8 +29,15 @@ fn by_length(answer: Answer) -> u64
 }
 
 // More numbers than a call has.
-fn zeros() -> [f64; 76] {
-    [0.0; 76]
+fn zeros() -> [f64; MOST_CALL_NUMBERS + 1] {
+    [0.0; MOST_CALL_NUMBERS + 1]
+}
+
+// One number more than a call of a kind has.
+fn one_more(kind: Kind) -> usize
+    ensures { λ r. ⌜ r ≡ callLength kind + 1 ⌝ }
+{
+    call_length(kind) + 1
 }
 
 // How many of a propagation and a general update are refused by length. Each has `less` numbers fewer than one too many: 1 gives the stated
@@ -32,8 +47,8 @@ fn refused_calls(run: &mut [f64], less: usize) -> u64
     ensures { λ r. ⌜ r ≤ 2 ⌝ }
 {
     let numbers = zeros();
-    let a = by_length(entry::propagate(run, &numbers[..26 - less]));
-    let b = by_length(entry::update(run, &numbers[..76 - less]));
+    let a = by_length(entry::propagate(run, &numbers[..one_more(Kind::Propagate) - less]));
+    let b = by_length(entry::update(run, &numbers[..one_more(Kind::General) - less]));
     a + b
 }
 
@@ -43,9 +58,9 @@ fn refused_measured(run: &mut [f64], less: usize) -> u64
     ensures { λ r. ⌜ r ≤ 3 ⌝ }
 {
     let numbers = zeros();
-    let a = by_length(entry::update_position(run, &numbers[..13 - less]));
-    let b = by_length(entry::update_velocity(run, &numbers[..16 - less]));
-    let c = by_length(entry::update_direction(run, &numbers[..16 - less]));
+    let a = by_length(entry::update_position(run, &numbers[..one_more(Kind::Position) - less]));
+    let b = by_length(entry::update_velocity(run, &numbers[..one_more(Kind::Velocity) - less]));
+    let c = by_length(entry::update_direction(run, &numbers[..one_more(Kind::Direction) - less]));
     a + b + c
 }
 
@@ -54,10 +69,10 @@ fn refused_others(run: &mut [f64], less: usize) -> u64
     requires { ⌜ less ≤ 2 ⌝ }
     ensures { λ r. ⌜ r ≤ 2 ⌝ }
 {
-    let mut state = [0.0; 34];
-    let numbers = [0.0; 478];
-    let a = by_length(entry::nav_state(run, &mut state[..34 - less]));
-    let b = by_length(entry::start(run, &numbers[..478 - less]));
+    let mut state = [0.0; STATE_LENGTH + 1];
+    let numbers = [0.0; START_LENGTH + 1];
+    let a = by_length(entry::nav_state(run, &mut state[..STATE_LENGTH + 1 - less]));
+    let b = by_length(entry::start(run, &numbers[..START_LENGTH + 1 - less]));
     a + b
 }
 
@@ -74,9 +89,9 @@ fn refused(name: &[u8], run: &mut [f64], less: usize)
 
 // Runs one number shorter and one longer than stated, and as stated.
 pub(crate) fn print_lengths() {
-    let mut short = [0.0; 477];
-    let mut run = [0.0; 478];
-    let mut long = [0.0; 479];
+    let mut short = [0.0; FILTER_LENGTH - 1];
+    let mut run = [0.0; FILTER_LENGTH];
+    let mut long = [0.0; FILTER_LENGTH + 1];
     refused(b"a filter of 477 numbers", &mut short, 1);
     refused(b"a filter of 479 numbers", &mut long, 1);
     refused(b"a number too few", &mut run, 2);

@@ -1,7 +1,7 @@
 // What came of a call, and whether the original's stored answer is the same.
-use crate::bytes::u64_at;
-use crate::digest::bits_of;
 use drifters_eqf::filter::Answer;
+use little_endian::bits::bits_of;
+use little_endian::bytes::u64_at;
 
 // Of a stored answer: a code, the bits of the NIS, the digest of the run lent for a state, that of the filter.
 pub const ANSWER_BYTES: usize = 32;

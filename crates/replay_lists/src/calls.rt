@@ -4,12 +4,10 @@ use crate::call_digest::UNTOUCHED;
 use crate::digest::digest;
 use drifters_entry::entry::STATE_LENGTH;
 use drifters_entry::entry::call;
-use drifters_entry::entry::call_length;
-use drifters_entry::entry::written_length;
 use drifters_entry::kind::Kind;
-
-// The most numbers of a call.
-pub const MOST_CALL_NUMBERS: usize = 75;
+use drifters_entry::kind::MOST_CALL_NUMBERS;
+use drifters_entry::kind::call_length;
+use drifters_entry::kind::written_length;
 
 // The digest of the run that was lent for a state. It comes as an array, so that its length is known.
 fn state_digest(state: &[f64; STATE_LENGTH]) -> u64 {

@@ -3,6 +3,8 @@
 // For each number first the upper half of its 64 bits, then the lower: a = (a * A + half) mod M, b = (b * B + half) mod M, both from 0 on.
 // The digest is a * 2^32 + b. What is not a number has the bits 7FF8000000000000.
 
+use little_endian::bits::bits_of;
+
 // A prime: no power of 2 is a multiple of it.
 const M: u64 = 0x7fff_ffff;
 
@@ -27,14 +29,6 @@ fn add_half(d: Sums, half: u64) -> Sums {
 fn add_number(d: Sums, x: f64) -> Sums {
     let bits = bits_of(x);
     add_half(add_half(d, bits / 0x1_0000_0000), bits)
-}
-
-// The bits of a number; all that are not numbers have one pattern.
-pub(crate) fn bits_of(x: f64) -> u64 {
-    if x != x {
-        return 0x7ff8_0000_0000_0000;
-    }
-    f64::to_bits(x)
 }
 
 pub(crate) fn digest(numbers: &[f64]) -> u64 {

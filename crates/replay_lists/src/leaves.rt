@@ -1,9 +1,6 @@
 // Functions below the calls whose bits no call shows, against the original's.
-ghost use Prim.Native.Nat.{_+_, _*_, _≤_};
+ghost use Prim.Native.Nat.{_≤_};
 ghost use lib.ListN.{length};
-use crate::bytes::numbers_at;
-use crate::bytes::u64_at;
-use crate::digest::bits_of;
 use crate::tally::Tally;
 use crate::tally::unread;
 use drifters_adjoint::adjoint::integrated_adjoint;
@@ -12,6 +9,9 @@ use drifters_core::math::vec3::from_vec3;
 use drifters_eqf::filter::Answer;
 use drifters_lie::lie::Se3Tangent;
 use drifters_matrix::math::shapes::Mat21;
+use little_endian::bits::bits_of;
+use little_endian::bits::numbers_of;
+use little_endian::bytes::u64s_at;
 use sheet_file::read_file;
 
 // The functions, each of at most six numbers, with at most 36 numbers as its result.
@@ -23,9 +23,9 @@ enum Leaf {
 }
 
 // The bytes of six numbers, and of the 36 of a result after them.
-const NUMBERS_BYTES: usize = 48;
+const NUMBERS_BYTES: usize = 8 * 6;
 
-const RECORD_BYTES: usize = 336;
+const RECORD_BYTES: usize = NUMBERS_BYTES + 8 * 36;
 
 // The most records of a file.
 const MOST_RECORDS: usize = 64;
@@ -69,23 +69,31 @@ fn value(leaf: Leaf, v: [f64; 6]) -> [f64; 36] {
     }
 }
 
+// The 36 bit patterns from a place on.
+fn stored_at(s: &[u8], at: usize) -> [u64; 36] {
+    let mut stored = [0u64; 36];
+    u64s_at(s, at, &mut stored);
+    stored
+}
+
 // Whether the bits from a place on are those of the numbers.
-fn are_stored(numbers: [f64; 36], s: &[u8], at: usize) -> bool
-    requires { ⌜ at + 288 ≤ length (now s) ⌝ }
-{
+fn are_stored(numbers: [f64; 36], s: &[u8], at: usize) -> bool {
+    let stored = stored_at(s, at);
     let mut same = true;
     for i in 0..36 {
-        same = same & (bits_of(numbers[i]) == u64_at(s, at + 8 * i));
+        same = same & (bits_of(numbers[i]) == stored[i]);
     }
     same
 }
 
 // Whether the function gives the result that is stored beside the six numbers from a place on.
 fn agrees(leaf: Leaf, s: &[u8], at: usize) -> bool
-    requires { ⌜ at + 336 ≤ length (now s) ⌝ }
+    requires { ⌜ at ≤ length (now s) ⌝ }
 {
+    let mut bits = [0u64; 6];
+    u64s_at(s, at, &mut bits);
     let mut v = [0.0; 6];
-    numbers_at(s, at, &mut v);
+    numbers_of(&bits, &mut v);
     are_stored(value(leaf, v), s, at + NUMBERS_BYTES)
 }
 

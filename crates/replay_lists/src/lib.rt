@@ -1,5 +1,4 @@
 // Calls, starts and values of functions, made on the proved code and compared with the original's stored answers.
-mod bytes;
 pub mod call_digest;
 pub mod calls;
 mod digest;

@@ -1,31 +1,32 @@
 // The starts of a file against the original's answers, which stand beside the numbers of each.
-ghost use Prim.Native.Nat.{_+_, _*_, _≤_};
-ghost use lib.ListN.{length};
-use crate::bytes::numbers_at;
+use crate::call_digest::ANSWER_BYTES;
 use crate::call_digest::CallDigest;
 use crate::call_digest::UNTOUCHED;
 use crate::digest::digest;
 use crate::tally::Tally;
 use crate::tally::unread;
 use drifters_entry::entry::FILTER_LENGTH;
+use drifters_entry::entry::START_LENGTH;
 use drifters_entry::entry::start;
+use little_endian::bits::numbers_of;
+use little_endian::bytes::u64s_at;
 use sheet_file::read_file;
 
 // How many starts the file has.
 const STARTS: usize = 24;
 
-// The bytes of a start's 477 numbers.
-const NUMBERS_BYTES: usize = 3816;
+// The bytes of a start's numbers.
+const NUMBERS_BYTES: usize = 8 * START_LENGTH;
 
 // The bytes of a start with its answer.
-const START_BYTES: usize = 3848;
+const START_BYTES: usize = NUMBERS_BYTES + ANSWER_BYTES;
 
 // Starts a filter by the numbers from a place on.
-fn run_start(s: &[u8], at: usize) -> CallDigest
-    requires { ⌜ at + 3848 ≤ length (now s) ⌝ }
-{
-    let mut numbers = [0.0; 477];
-    numbers_at(s, at, &mut numbers);
+fn run_start(s: &[u8], at: usize) -> CallDigest {
+    let mut bits = [0u64; START_LENGTH];
+    u64s_at(s, at, &mut bits);
+    let mut numbers = [0.0; START_LENGTH];
+    numbers_of(&bits, &mut numbers);
     let mut run = [UNTOUCHED; FILTER_LENGTH];
     let answer = start(&mut run, &numbers);
     CallDigest {
@@ -36,9 +37,7 @@ fn run_start(s: &[u8], at: usize) -> CallDigest
 }
 
 // Makes each start, all on a run of their own.
-fn run_starts(s: &[u8]) -> Tally
-    requires { ⌜ 24 * 3848 ≤ length (now s) ⌝ }
-{
+fn run_starts(s: &[u8]) -> Tally {
     let mut t = Tally::none();
     for i in 0..STARTS {
         let given = run_start(s, START_BYTES * i);

@@ -5,13 +5,28 @@ use call_sheet::run::run_sheet;
 use call_sheet::run::sheet_text;
 use call_sheet::sheet::Filled;
 use call_sheet::sheet::MOST_BYTES;
+use drifters_entry::entry::FILTER_LENGTH;
+use drifters_entry::kind::kinds;
 use drifters_eqf::filter::LENGTH_REFUSAL;
 use libc::STDOUT_FILENO;
+use little_endian::bytes::put_u32;
 use sheet_file::counted;
 use sheet_file::read_file;
 
 // Room for the sheets that are made here, the longest of them longer than a sheet may be.
-const ROOM: usize = 65544;
+const ROOM: usize = MOST_BYTES + 8;
+
+// The bytes of a filter.
+const FILTER_BYTES: usize = 8 * FILTER_LENGTH;
+
+// The bytes of a sheet of a filter alone: a count, a table of one entry, the filter.
+const ALONE: usize = 4 + 8 + FILTER_BYTES;
+
+// Where the body of the one call of a sheet begins.
+const BODY: usize = 4 + 8 * 2 + FILTER_BYTES;
+
+// Where a position call ends there: it has 12 numbers.
+const END: usize = BODY + 8 * 12;
 
 // What a sheet is, and its text.
 fn report(name: &[u8], sheet: &[u8]) {
@@ -27,16 +42,6 @@ fn file(name: &[u8], path: &[u8]) {
     let mut bytes = [0u8; MOST_BYTES];
     let n = read_file(path, &mut bytes);
     report(name, &bytes[..n]);
-}
-
-// A u32 in four bytes, lowest first.
-fn put_u32(bytes: &mut [u8; ROOM], at: usize, n: u32)
-    requires { ⌜ at + 4 ≤ 65544 ⌝ }
-{
-    bytes[at] = (n % 256) as u8;
-    bytes[at + 1] = (n / 256 % 256) as u8;
-    bytes[at + 2] = (n / 65536 % 256) as u8;
-    bytes[at + 3] = (n / 16777216) as u8;
 }
 
 // Entry i of a table: its kind, and the offset of its body.
@@ -70,17 +75,17 @@ fn filter_entry(name: &[u8], kind: u32, offset: u32) {
     let mut bytes = [0u8; ROOM];
     put_u32(&mut bytes, 0, 1);
     put_entry(&mut bytes, 0, kind, offset);
-    report_front(name, bytes, 3836);
+    report_front(name, bytes, ALONE);
 }
 
 // A filter of zeros and one call, its body at `offset`, in a file of `length` bytes.
-fn one_call(name: &[u8], kind: u32, offset: u32, length: usize)
-    requires { ⌜ length ≤ 65544 ⌝ }
+fn one_call(name: &[u8], kind: u32, offset: usize, length: usize)
+    requires { ⌜ (offset ≤ 65544) × (length ≤ 65544) ⌝ }
 {
     let mut bytes = [0u8; ROOM];
     put_u32(&mut bytes, 0, 2);
     put_entry(&mut bytes, 0, 0, 20);
-    put_entry(&mut bytes, 1, kind, offset);
+    put_entry(&mut bytes, 1, kind, offset as u32);
     report_front(name, bytes, length);
 }
 
@@ -89,7 +94,7 @@ fn states(name: &[u8], n: usize)
     requires { ⌜ n ≤ 257 ⌝ }
 {
     let mut bytes = [0u8; ROOM];
-    let end = 3828 + 8 * n;
+    let end = 4 + 8 * n + FILTER_BYTES;
     put_u32(&mut bytes, 0, n as u32);
     put_entry(&mut bytes, 0, 0, (4 + 8 * n) as u32);
     put_entries(&mut bytes, 1, n, 6, 0, end as u32);
@@ -103,7 +108,7 @@ fn long(name: &[u8], n: usize, length: usize)
     let mut bytes = [0u8; ROOM];
     put_u32(&mut bytes, 0, n as u32);
     put_entry(&mut bytes, 0, 0, (4 + 8 * n) as u32);
-    let updates = (3828 + 8 * n) as u32;
+    let updates = (4 + 8 * n + FILTER_BYTES) as u32;
     put_entries(&mut bytes, 1, 102, 5, 600, updates);
     put_entries(&mut bytes, 102, 103, 1, 200, updates + 60600);
     put_entries(&mut bytes, 103, n, 6, 0, updates + 60800);
@@ -122,16 +127,16 @@ fn short_text() {
 
 // A filter of zeros and one call: in its place, and out of it.
 fn one_calls() {
-    one_call(b"a position call", 2, 3844, 3940);
-    one_call(b"a gap", 2, 3852, 3948);
-    one_call(b"an offset too high", 2, 3852, 3940);
-    one_call(b"an overlap", 2, 3836, 3932);
-    one_call(b"an offset too low", 2, 3836, 3940);
-    one_call(b"a byte too many", 2, 3844, 3941);
-    one_call(b"a byte too few", 2, 3844, 3939);
-    one_call(b"a state call", 6, 3844, 3844);
-    one_call(b"kind 7", 7, 3844, 3940);
-    one_call(b"a second filter", 0, 3844, 7668);
+    one_call(b"a position call", 2, BODY, END);
+    one_call(b"a gap", 2, BODY + 8, END + 8);
+    one_call(b"an offset too high", 2, BODY + 8, END);
+    one_call(b"an overlap", 2, BODY - 8, END - 8);
+    one_call(b"an offset too low", 2, BODY - 8, END);
+    one_call(b"a byte too many", 2, BODY, END + 1);
+    one_call(b"a byte too few", 2, BODY, END - 1);
+    one_call(b"a state call", 6, BODY, BODY);
+    one_call(b"kind 7", kinds() + 1, BODY, END);
+    one_call(b"a second filter", 0, BODY, BODY + FILTER_BYTES);
 }
 
 // How many bytes count.
@@ -158,16 +163,16 @@ fn long_file() {
 
 // The same file in a run that holds a sheet of a filter and a state call: what the file begins with.
 fn sheet_and_more() {
-    let mut bytes = [0u8; 3844];
+    let mut bytes = [0u8; BODY];
     let n = read_file(b"long.bin", &mut bytes);
     report(b"a sheet, and more bytes than the run holds", &bytes[..n]);
 }
 
-// What counts of 3,844 bytes by the answer of one further read.
+// What counts of the bytes of such a sheet by the answer of one further read.
 fn further_reads() {
-    print_count(b"3844 bytes, then the end", counted(3844, 0));
-    print_count(b"3844 bytes, then a byte", counted(3844, 1));
-    print_count(b"3844 bytes, then a failure", counted(3844, -1));
+    print_count(b"3844 bytes, then the end", counted(BODY, 0));
+    print_count(b"3844 bytes, then a byte", counted(BODY, 1));
+    print_count(b"3844 bytes, then a failure", counted(BODY, -1));
 }
 
 // What is read of files, and what of it counts.

@@ -1,4 +1,4 @@
--- `start_numbers` is safe: every place that it writes is below 477.
+-- `start_numbers` is safe: every place that it writes is one of a start.
 use Prim.Native.Nat.{_-_, _≤_}
 use native.Mathlib.Omega.{arith}
 use lib.Dec.{lit<}

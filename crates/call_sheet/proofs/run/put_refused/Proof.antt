@@ -4,7 +4,7 @@ use native.Mathlib.Nat.{zero-add}
 use native.Mathlib.Omega.{arith}
 use borrow.Author.Needs.{needs}
 use Rattle.call_sheet.specs.Text.{refusedText, newline}
-use Rattle.call_sheet.proofs.Placed.{put-none, put-then}
+use Rattle.little_endian.proofs.Placed.{put-none, put-then}
 use Rattle.call_sheet.proofs.run.put_refused.Statement.{statement}
 use Rattle.call_sheet.proofs.run.put_refused.Tie as tie
 

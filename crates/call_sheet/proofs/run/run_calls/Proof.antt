@@ -2,7 +2,7 @@
 use mathlib.Core.Path.{_≡_, refl, sym, ap, _∙_}
 use mathlib.Core.Bool.{true}
 use mathlib.Core.List.{List, [], _++_, append-assoc, append-nil}
-use mathlib.Core.Option.{Option, none, some, Option·some-injective}
+use mathlib.Core.Option.{some, Option·some-injective}
 use Prim.Native.Nat.{ℕ, _+_, _-_, _*_, _≤_, _<_}
 use native.Mathlib.Nat.{zero-add}
 use native.Mathlib.Omega.{arith}
@@ -14,12 +14,12 @@ use Rattle.drifters_entry.specs.Kind.{callLength, kindOf, found}
 use Rattle.drifters_entry.specs.Log.{outcomeOn, entriesFrom}
 use Rattle.drifters_eqf.specs.declared.filter.Answer.{Answer}
 use Rattle.drifters_entry.specs.declared.kind.Kind.{Kind}
-use Rattle.call_sheet.specs.Bytes.{placed}
+use Rattle.little_endian.specs.Bytes.{placed}
 use Rattle.call_sheet.specs.Sheet.{SheetCall, sheetCall, isSome, callsIn}
 use Rattle.call_sheet.specs.Text.{callOf, lineText, linesText, linesOf}
 use Rattle.call_sheet.proofs.Lines.{linesOn, Taken, calls-next}
 use Rattle.call_sheet.proofs.SheetLayout.{no-some, some-found}
-use Rattle.call_sheet.proofs.Placed.{Put, put-none, put-then}
+use Rattle.little_endian.proofs.Placed.{Put, put-none, put-then}
 use Rattle.call_sheet.proofs.run.run_calls.Statement.{statement}
 use Rattle.call_sheet.proofs.run.run_calls.Tie as tie
 

@@ -9,11 +9,13 @@ use borrow.Author.Needs.{needs}
 use lib.ListN.{length, take, drop, replicate, length-map}
 use lib.Seq.{take-at}
 use lib.Ieee.{Float}
+use Rattle.drifters_entry.specs.Layout.{filterLength}
 use Rattle.drifters_entry.specs.Kind.{kindNumber}
 use Rattle.call_sheet.specs.declared.sheet.Filled.{Filled}
 use Rattle.call_sheet.specs.declared.sheet.Filled.the-variants.{Length, Refused}
-use Rattle.call_sheet.specs.Bytes.{placed}
-use Rattle.call_sheet.specs.Sheet.{Sheet, readSheet, mostCalls, kindsOf, bitsOf, Runs, runs, inRuns, isSome, callsIn, Held}
+use Rattle.little_endian.specs.Bytes.{placed}
+use Rattle.little_endian.proofs.Numbers.{numbers-in-place}
+use Rattle.call_sheet.specs.Sheet.{Sheet, readSheet, mostCalls, mostNumbers, kindsOf, bitsOf, Runs, runs, inRuns, isSome, callsIn, Held}
 use Rattle.call_sheet.specs.Text.{refusedLine, numbersOf, linesOf, textOf, sheetText, printed}
 use Rattle.call_sheet.proofs.Held.{sheetsHeld}
 use Rattle.call_sheet.proofs.TextLength.{isLength, numberIn, room, no-room}
@@ -84,17 +86,17 @@ zeros n = replicate n 0
 after-reading : (c : tie.After-read-sheet) →
     let e = c .read-sheet in
     runs (e .result) (e .last .1 .0) (e .last .1 .1 .0) (e .last .1 .1 .1 .0)
-    ≡ inRuns (readSheet (c .before .before .before .before .before .before .before .args .s .now)) (zeros 478) (zeros 255) (zeros 8192)
+    ≡ inRuns (readSheet (c .before .before .before .before .before .before .before .args .s .now)) (zeros filterLength) (zeros mostCalls) (zeros mostNumbers)
 after-reading c =
     c .read-sheet .ensures
-    ∙ read-fitting _ (zeros 478) (zeros 255) (zeros 8192) (record { filter-length = refl; kinds-length = omega arith; numbers-length = omega arith })
+    ∙ read-fitting _ (zeros filterLength) (zeros mostCalls) (zeros mostNumbers) (record { filter-length = refl; kinds-length = omega arith; numbers-length = omega arith })
 
 -- the sheet that was read
 here : (c : tie.After-n) →
     let e = c .before .before .before .before .before in
     let last = e .read-sheet .last in
     Read (e .before .before .before .before .before .before .before .args .s .now) (c .n .given .0 .0) (last .1 .0) (last .1 .1 .0) (last .1 .1 .1 .0)
-here c = was-read _ (zeros 478) (zeros 255) (zeros 8192) _ refl (after-reading (c .before .before .before .before .before)) (c .n .given .1)
+here c = was-read _ (zeros filterLength) (zeros mostCalls) (zeros mostNumbers) _ refl (after-reading (c .before .before .before .before .before)) (c .n .given .1)
 
 array-share-prefix-kinds : tie.Need-array-share-prefix-kinds
 array-share-prefix-kinds c =
@@ -121,7 +123,8 @@ returns-2 c =
     let n = numbers .before .before .before .before in
     let test = n .before .before .before .before .before .before .before .before .before in
     let a = test .before .before .before .args in
-    let lines = text (here n) (numbers .numbers-of .ensures) in
+    let size = n .before .before .before .before .before .read-sheet .kept .1 .0 in
+    let lines = text (here n) (numbers .numbers-of .ensures ∙ numbers-in-place _ _ (sym size)) in
     let put = ran .run-calls in
     (λ i. printed (Length ((put .ensures .0 ∙ ap length lines) i)) ((put .ensures .1 ∙ ap (placed (a .text .now) 0) lines) i))
     ∙ sym (room (a .s .now) (a .text .now) (test .if1 .left))
@@ -134,7 +137,7 @@ returns-3 c =
     let e = n .before .before .before .before .before in
     let test = e .before .before .before .before in
     let a = test .before .before .before .args in
-    let line = was-refused (a .s .now) (zeros 478) (zeros 255) (zeros 8192) (readSheet (a .s .now)) refl (after-reading e) (n .n2 .given .1) in
+    let line = was-refused (a .s .now) (zeros filterLength) (zeros mostCalls) (zeros mostNumbers) (readSheet (a .s .now)) refl (after-reading e) (n .n2 .given .1) in
     (λ i. printed (Length ((put .ensures .0 ∙ ap length line) i)) ((put .ensures .1 ∙ ap (placed (a .text .now) 0) line) i))
     ∙ sym (room (a .s .now) (a .text .now) (test .if1 .left))
 
@@ -150,7 +153,7 @@ run-sheet-spec =
     (λ c. search needs)
     (λ c. sym (c .before .before .before .before .before .before .before .read-sheet .kept .1 .0))
     (λ c. refl)
-    (λ c κs. sym (c .before .before .before .before .before .before .before .before .read-sheet .kept .1 .0))
+    (λ c κs. tt)
     (λ c. sym (c .before .before .numbers-of .kept .1 .0))
     array-share-prefix-kinds
     (λ c. sym (size (here (c .before .before .before .before .before .before .before))))

@@ -5,7 +5,7 @@ use Prim.Native.Nat.{ℕ, _+_, _-_, _*_, _≤_}
 use native.Mathlib.Omega.{arith}
 use lib.ListN.{length, length-set}
 use Rattle.drifters_matrix.proofs.Matrix.Tab.{front, front-zero, step-set, step-done}
-use Rattle.call_sheet.specs.Bytes.{u32At}
+use Rattle.little_endian.specs.Bytes.{u32At}
 use Rattle.call_sheet.specs.Sheet.{kindAt}
 use Rattle.call_sheet.proofs.sheet.read_kinds.Statement.{statement}
 use Rattle.call_sheet.proofs.sheet.read_kinds.Tie as tie

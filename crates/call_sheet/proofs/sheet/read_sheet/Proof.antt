@@ -12,7 +12,7 @@ use lib.ListN.{length, take, drop, length-map}
 use lib.Seq.{length-take-le}
 use Rattle.drifters_matrix.specs.Matrix.{tab}
 use Rattle.call_sheet.specs.declared.sheet.Filled.the-variants.{Length}
-use Rattle.call_sheet.specs.Bytes.{u64sAt, placed}
+use Rattle.little_endian.specs.Bytes.{u64sAt, placed}
 use Rattle.call_sheet.specs.Sheet.{
   kindAt,
   countOf,

@@ -5,7 +5,7 @@ use Prim.Native.Nat.{ℕ, _-_}
 use native.Mathlib.Omega.{arith}
 use borrow.Author.Needs.{needs}
 use lib.ListN.{length, replicate}
-use Rattle.call_sheet.specs.Bytes.{digits}
+use Rattle.call_sheet.specs.Digits.{digits}
 use Rattle.call_sheet.specs.Text.{answerText}
 use Rattle.call_sheet.proofs.text.answer_text.Statement.{statement}
 use Rattle.call_sheet.proofs.text.answer_text.Tie as tie

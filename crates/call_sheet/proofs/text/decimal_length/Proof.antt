@@ -1,7 +1,7 @@
 -- `text::decimal_length` meets its contract.
 use native.Mathlib.Omega.{arith}
 use borrow.Author.Tests.{lt-ltb, le-ltb}
-use Rattle.call_sheet.specs.Bytes.{decimal}
+use Rattle.call_sheet.specs.Digits.{decimal}
 use Rattle.call_sheet.proofs.text.decimal_length.Statement.{statement}
 use Rattle.call_sheet.proofs.text.decimal_length.Tie as tie
 

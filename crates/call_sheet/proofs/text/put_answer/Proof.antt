@@ -5,7 +5,7 @@ use Prim.Native.Nat.{ℕ, _+_}
 use native.Mathlib.Omega.{arith}
 use borrow.Author.Needs.{needs}
 use lib.ListN.{length}
-use Rattle.call_sheet.specs.Bytes.{placed}
+use Rattle.little_endian.specs.Bytes.{placed}
 use Rattle.call_sheet.specs.Text.{answerText}
 use Rattle.call_sheet.proofs.Digits.{text-within, text-front, text-count}
 use Rattle.call_sheet.proofs.text.put_answer.Statement.{statement}

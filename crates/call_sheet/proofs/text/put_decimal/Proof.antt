@@ -5,8 +5,9 @@ use Prim.Native.Nat.{ℕ, _+_, _-_, _≤_}
 use native.Mathlib.Omega.{arith}
 use borrow.Author.Needs.{needs}
 use lib.ListN.{length, take, drop, length-take, length-drop}
-use Rattle.call_sheet.specs.Bytes.{placed, digits, decimal}
-use Rattle.call_sheet.proofs.Placed.{placed-part}
+use Rattle.little_endian.specs.Bytes.{placed}
+use Rattle.call_sheet.specs.Digits.{digits, decimal}
+use Rattle.little_endian.proofs.Placed.{placed-part}
 use Rattle.call_sheet.proofs.text.put_decimal.Statement.{statement}
 use Rattle.call_sheet.proofs.text.put_decimal.Tie as tie
 

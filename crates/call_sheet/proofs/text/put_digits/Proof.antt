@@ -6,7 +6,7 @@ use native.Mathlib.Nat.{mod-lt}
 use native.Mathlib.Omega.{arith}
 use lib.ListN.{length, drop, set, length-set}
 use lib.Seq.{drop-cons, drop-length, drop-set-lt, getD-set-same}
-use Rattle.call_sheet.specs.Bytes.{digit, digits}
+use Rattle.call_sheet.specs.Digits.{digit, digits}
 use Rattle.call_sheet.proofs.text.put_digits.Statement.{statement}
 use Rattle.call_sheet.proofs.text.put_digits.Tie as tie
 

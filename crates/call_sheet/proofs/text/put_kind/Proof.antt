@@ -6,7 +6,8 @@ use native.Mathlib.Omega.{arith}
 use borrow.Author.Needs.{needs}
 use lib.ListN.{length}
 use Rattle.drifters_entry.specs.declared.kind.Form.{Form}
-use Rattle.call_sheet.specs.Bytes.{placed, decimal}
+use Rattle.little_endian.specs.Bytes.{placed}
+use Rattle.call_sheet.specs.Digits.{decimal}
 use Rattle.call_sheet.proofs.Digits.{kind-digit}
 use Rattle.call_sheet.proofs.text.put_kind.Statement.{statement}
 use Rattle.call_sheet.proofs.text.put_kind.Tie as tie

@@ -2,7 +2,7 @@
 use native.Mathlib.Omega.{arith}
 use borrow.Author.Needs.{needs}
 use Rattle.call_sheet.specs.Text.{space, newline, lineText}
-use Rattle.call_sheet.proofs.Placed.{put-none, put-then}
+use Rattle.little_endian.proofs.Placed.{put-none, put-then}
 use Rattle.call_sheet.proofs.text.put_line.Statement.{statement}
 use Rattle.call_sheet.proofs.text.put_line.Tie as tie
 

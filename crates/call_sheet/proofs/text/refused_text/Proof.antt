@@ -5,7 +5,7 @@ use Prim.Native.Nat.{ℕ, zero, suc, _+_, _-_, _≤_}
 use native.Mathlib.Nat.{sub-zero, zero-sub, suc-sub-suc}
 use native.Mathlib.Omega.{arith}
 use lib.ListN.{length, take, drop, replicate, length-take, length-replicate}
-use Rattle.call_sheet.specs.Bytes.{digits, decimal}
+use Rattle.call_sheet.specs.Digits.{digits, decimal}
 use Rattle.call_sheet.specs.Text.{refusedText}
 use Rattle.call_sheet.proofs.text.refused_text.Statement.{statement}
 use Rattle.call_sheet.proofs.text.refused_text.Tie as tie

@@ -1,5 +1,5 @@
 -- `kind::form_of` meets its contract.
-use mathlib.Core.Path.{_≡_, sym, ap}
+use mathlib.Core.Path.{sym, ap}
 use borrow.Author.Needs.{needs}
 use Rattle.drifters_entry.specs.Kind.{formOf}
 use Rattle.drifters_entry.proofs.kind.form_of.Statement.{statement}

@@ -1,5 +1,5 @@
 -- `kind::kind_of` meets its contract.
-use mathlib.Core.Path.{_≡_, refl, sym, ap, _∙_}
+use mathlib.Core.Path.{_≡_, sym, ap, _∙_}
 use mathlib.Core.Option.{none, some}
 use Prim.Native.Nat.{ℕ}
 use borrow.Author.Tests.{ne-eqb}

@@ -9,10 +9,12 @@ pub refused-calls-spec : {M : Type 1} → statement M
 refused-calls-spec =
     tie.close
     (tie.spec
-    (λ c κs. tt)
+    (λ c κs. search needs)
+    (λ c κs. search needs)
     (λ c. search needs)
     (λ c. search needs)
     (λ c. sym (length-take-le _ _ (search needs)))
+    (λ c κs. search needs)
     (λ c κs. search needs)
     (λ c κs. search needs)
     (λ c. search needs)

@@ -1,0 +1,3 @@
+-- The laws that the proofs of the functions cite.
+pub mod Placed
+pub mod Numbers

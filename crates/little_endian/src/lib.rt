@@ -1,0 +1,3 @@
+// Numbers in bytes, lowest byte first, and numbers by their bits.
+pub mod bits;
+pub mod bytes;
