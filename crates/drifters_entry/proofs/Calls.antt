@@ -13,12 +13,13 @@ use Rattle.drifters_matrix.specs.Matrix.{allFinite}
 use Rattle.drifters_eqf.specs.Answer.{lengthRefusal, blankRefusal, rangeRefusal}
 use Rattle.drifters_entry.specs.Layout.{filterLength, fromRun, toRun}
 use Rattle.drifters_entry.specs.Kind.{formOf, callLength, writtenLength}
-use Rattle.drifters_entry.specs.Entry.{requestOf, Outcome, outcome, outcomeOf, performed, refused, rangeCheckedAs, rangeChecked, lengthsFit, firstRefusal, call}
+use Rattle.drifters_entry.specs.Entry.{Request, requestOf, Outcome, outcome, outcomeOf, performed, refused, rangeCheckedAs, rangeChecked, lengthsFit, firstRefusal, call}
 use Rattle.drifters_eqf.specs.declared.filter.Answer.{Answer}
 use Rattle.drifters_eqf.specs.declared.filter.Answer.the-variants.{Nis, Fine, Refused}
 use Rattle.drifters_eqf.specs.declared.filter.Answered.{Answered}
 use Rattle.drifters_entry.specs.declared.kind.Kind.{Kind}
 use Rattle.drifters_entry.proofs.Parts.{allFinite-one}
+use Rattle.drifters_entry.proofs.KindLaws.{writtenBy, kind-laws}
 
 -- ---- what is tested before a call is begun
 
@@ -77,12 +78,19 @@ pub no-numbers : (v : List Float) → length v ≡ 0 → v ≡ []
 no-numbers [] e = refl
 no-numbers (x ∷ v) e = absurd (omega (arith, e))
 
--- a call of a kind K that writes nothing beside the filter
-pub call-made : (K : Kind) (run v : List Float) {kind : Kind} {written left : List Float} {o : Answer} → writtenLength K ≡ 0 → kind ≡ K → Passed kind run v written
-    → outcome o left [] ≡ rangeChecked (performed (requestOf K (fromRun run) v) (fromRun run) run []) run [] → outcome o left written ≡ call kind run v written
-call-made K run v {kind} {written} nothing told p given =
-    let empty : written ≡ [] = no-numbers written (p .written-length ∙ ap writtenLength told ∙ nothing) in
-    call-passed kind run v written p (rw (empty, told) given)
+-- a call that asks for q
+module _ (kind : Kind) (run v : List Float) {written : List Float} (q : Request) (asked : q ≡ requestOf kind (fromRun run) v) (p : Passed kind run v written) where
+  -- how many numbers it writes beside the filter
+  pub asked-length : length written ≡ writtenBy q
+  asked-length = p .written-length ∙ kind-laws kind .writes (fromRun run) v ∙ ap writtenBy (sym asked)
+
+  pub call-asked : {o : Outcome} → o ≡ rangeChecked (performed q (fromRun run) run written) run written → o ≡ call kind run v written
+  call-asked e = call-passed kind run v written p (rw (← asked) e)
+
+  -- where it writes none
+  pub call-made : {left : List Float} {o : Answer} → writtenBy q ≡ 0 → outcome o left [] ≡ rangeChecked (performed q (fromRun run) run []) run []
+      → outcome o left written ≡ call kind run v written
+  call-made nothing e = call-asked (rw (no-numbers written (asked-length ∙ nothing)) e)
 
 -- ---- what is given out
 

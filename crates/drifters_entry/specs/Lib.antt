@@ -2,4 +2,5 @@
 pub mod Layout
 pub mod Kind
 pub mod Entry
+pub mod Asked
 pub mod Log

@@ -9,7 +9,9 @@ ghost use Rattle.drifters_lie.specs.Lie.{vec3At};
 ghost use Rattle.drifters_eqf.specs.Filter.{measurement3, measuredPosition, measuredVelocity, measuredDirection};
 ghost use Rattle.drifters_entry.specs.Layout.{filterLength, stateLength, part, fromRun};
 ghost use Rattle.drifters_entry.specs.Kind.{callLength};
+ghost use Rattle.drifters_entry.specs.Asked.{asRequest, Readable};
 ghost use Rattle.drifters_entry.specs.Entry.{measurement, estimate, processNoiseAt, requestOf, outcome, outcomeOf, performed, rangeChecked, firstRefusal, call, start};
+ghost use Rattle.drifters_entry.specs.declared.entry.Action.the-variants.{Update3};
 ghost use Rattle.drifters_entry.specs.declared.kind.Kind.the-variants.{Propagate, Position, Velocity, Direction, General, State};
 use crate::kind::Form;
 use crate::kind::Kind;
@@ -28,6 +30,7 @@ use crate::layout::state_to_run;
 use crate::layout::symmetry_from_run;
 use crate::layout::to_run;
 use crate::layout::vec3_at;
+use drifters_core::math::vec3::Vec3;
 use drifters_covariance::covariance::ProcessNoise;
 use drifters_eqf::filter::Answer;
 use drifters_eqf::filter::Answered;
@@ -54,6 +57,21 @@ pub const STATE_LENGTH: usize = SIGMA;
 // How many numbers a start takes: a state, a covariance, gravity.
 pub const START_LENGTH: usize = ALPHA;
 
+// What is done to a filter: a propagation, an update by three measured numbers, or nothing, where its estimate is asked.
+pub enum Action {
+    Propagate,
+    Update3,
+    Estimate,
+}
+
+// What a call asks of a filter. An enum of the language holds no array, so what is measured, and where its noise begins in the call's numbers,
+// stand beside it; they count in an update only.
+pub struct Asked {
+    pub action: Action,
+    pub measurement: Measurement3,
+    pub noise: usize,
+}
+
 // A call of a kind: its checks, what it asks of the filter, and the results written back. `written` is the run that a state call writes, and
 // empty for the others. A refusal changes no lent number.
 pub fn call(kind: Kind, run: &mut [f64], numbers: &[f64], written: &mut [f64]) -> Answer
@@ -63,13 +81,12 @@ pub fn call(kind: Kind, run: &mut [f64], numbers: &[f64], written: &mut [f64]) -
     if refusal != 0 {
         return Answer::Refused(refusal);
     }
-    match kind {
-        Kind::Propagate => propagate_by(numbers, run),
-        Kind::Position => update_by(position(run, numbers), numbers, 3, run[ALPHA], run),
-        Kind::Velocity => update_by(velocity(run, numbers), numbers, 6, run[ALPHA], run),
-        Kind::Direction => update_by(direction(run, numbers), numbers, 6, run[ALPHA], run),
-        Kind::General => update_by(general(numbers), numbers, 66, run[ALPHA], run),
-        Kind::State => write_estimate(run, written),
+    let asked = asked_by(kind, run, numbers);
+    let action = asked.action;
+    match action {
+        Action::Propagate => propagate_by(numbers, run),
+        Action::Update3 => update_by(asked.measurement, numbers, asked.noise, run[ALPHA], run),
+        Action::Estimate => write_estimate(run, written),
     }
 }
 
@@ -166,6 +183,47 @@ fn first_refusal(form: Form, run: &[f64], numbers: &[f64], written: usize) -> u3
         return BLANK_REFUSAL;
     }
     0
+}
+
+// What a call's numbers ask of the filter.
+fn asked_by(kind: Kind, run: &[f64], numbers: &[f64]) -> Asked
+    requires { ⌜ (length (now run) ≡ filterLength) × (length (now numbers) ≡ callLength kind) ⌝ }
+    ensures { λ r. ⌜ (asRequest (r .action) r (fromRun (now (run .entry))) (now (numbers .entry)) ≡ requestOf kind (fromRun (now (run .entry))) (now (numbers .entry))) × Readable (r .action) r (now (numbers .entry)) ⌝ }
+{
+    match kind {
+        Kind::Propagate => unmeasured(Action::Propagate),
+        Kind::Position => measured(position(run, numbers), 3),
+        Kind::Velocity => measured(velocity(run, numbers), 6),
+        Kind::Direction => measured(direction(run, numbers), 6),
+        Kind::General => measured(general(numbers), 66),
+        Kind::State => unmeasured(Action::Estimate),
+    }
+}
+
+// An update by three measured numbers, its noise from a place on.
+fn measured(measurement: Measurement3, noise: usize) -> Asked
+    ensures { λ r. ⌜ r ≡ (record { action = Update3; measurement = measurement; noise = noise }) ⌝ }
+{
+    Asked {
+        action: Action::Update3,
+        measurement,
+        noise,
+    }
+}
+
+// An action that measures nothing.
+fn unmeasured(action: Action) -> Asked
+    ensures { λ r. ⌜ r .action ≡ action ⌝ }
+{
+    let measurement = Measurement3 {
+        output: Mat3x21::zeros(),
+        innovation: Vec3::ZERO,
+    };
+    Asked {
+        action,
+        measurement,
+        noise: 0,
+    }
 }
 
 // The propagation of a filter by a call's numbers.

@@ -1,0 +1,28 @@
+-- What the code makes of a call before the filter is touched; only private contracts cite it. Definitions only.
+use Prim.Native.Nat.{_+_, _≤_}
+use mathlib.Core.Path.{_≡_}
+use mathlib.Core.List.{List}
+use lib.ListN.{length, getD}
+use lib.Ieee.{Float, nan}
+use Rattle.drifters_covariance.specs.Covariance.{inputAt}
+use Rattle.drifters_eqf.specs.Filter.{measurement3}
+use Rattle.drifters_eqf.specs.declared.filter.EqFilter.{EqFilter}
+use Rattle.drifters_entry.specs.Layout.{part}
+use Rattle.drifters_entry.specs.Kind.{callLength}
+use Rattle.drifters_entry.specs.Entry.{Request, propagation, measurement, estimate, processNoiseAt}
+use Rattle.drifters_entry.specs.declared.kind.Kind.the-variants as kind
+use Rattle.drifters_entry.specs.declared.entry.Asked.{Asked}
+use Rattle.drifters_entry.specs.declared.entry.Action.{Action}
+use Rattle.drifters_entry.specs.declared.entry.Action.the-variants.{Propagate, Update3, Estimate}
+
+-- what an action with what stands beside it asks of the filter f, by the numbers v of the call
+abbrev pub asRequest : Action → Asked → EqFilter → List Float → Request
+asRequest Propagate a f v = propagation (inputAt v 0) (getD v 6 nan) (processNoiseAt v 7)
+asRequest Update3 a f v = measurement 3 (measurement3 (a .measurement)) (part v (a .noise) 9) (f .alpha)
+asRequest Estimate a f v = estimate
+
+-- the numbers that an action reads are there
+abbrev pub Readable : Action → Asked → List Float → Type 0
+Readable Propagate a v = length v ≡ callLength kind.Propagate
+Readable Update3 a v = a .noise + 9 ≤ length v
+Readable Estimate a v = Unit
