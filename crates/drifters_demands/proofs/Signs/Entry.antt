@@ -151,16 +151,16 @@ like-request : {s : Signs} {f g : EqFilter} → LikeFilter s noTurn noTurn f g �
     → LikeRequest s (requestOf kind f v) (requestOf kind g w)
 like-request F Propagate h = like-propagation (like-inputAt h) (h .entry 6 (lit< tt)) (like-processNoiseAt h)
 like-request {s} F Position h =
-    like-measurement (like-measuredPosition F record { x = h .entry 0 (lit< tt); y = h .entry 1 (lit< tt); z = h .entry 2 (lit< tt) })
+    like-measurement (like-measuredPosition (F .x) record { x = h .entry 0 (lit< tt); y = h .entry 1 (lit< tt); z = h .entry 2 (lit< tt) })
     (like-noise (like-rest 3 9 (axis s) (noiseSigns s) h)) (F .alpha)
 like-request {s} F Velocity h =
     like-measurement
-    (like-measuredVelocity F record { x = h .entry 0 (lit< tt); y = h .entry 1 (lit< tt); z = h .entry 2 (lit< tt) }
+    (like-measuredVelocity (F .x) record { x = h .entry 0 (lit< tt); y = h .entry 1 (lit< tt); z = h .entry 2 (lit< tt) }
     record { x = h .entry 3 (lit< tt); y = h .entry 4 (lit< tt); z = h .entry 5 (lit< tt) })
     (noise-after-six (axis s) plain h) (F .alpha)
 like-request {s} F Direction h =
     like-measurement
-    (like-measuredDirection F record { x = h .entry 0 (lit< tt); y = h .entry 1 (lit< tt); z = h .entry 2 (lit< tt) }
+    (like-measuredDirection (F .x) record { x = h .entry 0 (lit< tt); y = h .entry 1 (lit< tt); z = h .entry 2 (lit< tt) }
     record { x = h .entry 3 (lit< tt); y = h .entry 4 (lit< tt); z = h .entry 5 (lit< tt) })
     (noise-after-six plain (axis s) h) (F .alpha)
 like-request F General h = like-measurement (like-general h) (noise-general h) (F .alpha)

@@ -226,24 +226,24 @@ like-update {s} {b} {m} F C Y N A =
     (λ e. like-refuse F)
 
 -- ---- what is measured
-module _ {s b m : Signs} {f f' : EqFilter} (F : LikeFilter s b m f f') where
-  pub like-measuredPosition : {antenna antenna' : Vec3} → LikeVec3 (axis s) antenna antenna' → LikeMeasurement (axis s) s 3 (measuredPosition f antenna) (measuredPosition f' antenna')
+module _ {s b m : Signs} {x x' : Symmetry} (X : LikeSymmetry s b s m x x') where
+  pub like-measuredPosition : {antenna antenna' : Vec3} → LikeVec3 (axis s) antenna antenna' → LikeMeasurement (axis s) s 3 (measuredPosition x antenna) (measuredPosition x' antenna')
   unfolding measuredPosition
   like-measuredPosition h =
-      let transported = like-transportedPosition (F .x) in
+      let transported = like-transportedPosition X in
       record { output = like-positionOutputMatrix h transported; innovation = like-toArray (like-subVec3 transported h) }
 
   pub like-measuredVelocity : {antenna antenna' omega omega' : Vec3} → LikeVec3 (axis s) antenna antenna' → LikeVec3 (axis b) omega omega'
-      → LikeMeasurement (axis s) s 3 (measuredVelocity f antenna omega) (measuredVelocity f' antenna' omega')
+      → LikeMeasurement (axis s) s 3 (measuredVelocity x antenna omega) (measuredVelocity x' antenna' omega')
   unfolding measuredVelocity
   like-measuredVelocity h k =
-      let transported = like-transportedVelocity (F .x) k in
-      record { output = like-velocityOutputMatrix h transported (like-mulMat3Vec3 (F .x .c .rotation) k); innovation = like-toArray (like-subVec3 transported h) }
+      let transported = like-transportedVelocity X k in
+      record { output = like-velocityOutputMatrix h transported (like-mulMat3Vec3 (X .c .rotation) k); innovation = like-toArray (like-subVec3 transported h) }
 
   pub like-measuredDirection : {measured measured' north north' : Vec3} → LikeVec3 (axis m) measured measured' → LikeVec3 (axis s) north north'
-      → LikeMeasurement (axis s) s 3 (measuredDirection f measured north) (measuredDirection f' measured' north')
+      → LikeMeasurement (axis s) s 3 (measuredDirection x measured north) (measuredDirection x' measured' north')
   unfolding measuredDirection
   like-measuredDirection h k =
       let origin = like-normalized k in
-      let transported = like-transportedDirection (F .x) (like-normalized h) in
+      let transported = like-transportedDirection X (like-normalized h) in
       record { output = like-directionOutputMatrix origin transported; innovation = like-toArray (like-mulMat3Vec3 (like-skew origin) transported) }
