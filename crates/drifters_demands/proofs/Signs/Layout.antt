@@ -18,7 +18,7 @@ use Rattle.drifters_demands.proofs.Signs.Matrix.{like-flat, like-matrix
 use Rattle.drifters_demands.proofs.Signs.Vec3.{below-three}
 use Rattle.drifters_lie.specs.Lie.{vec3At}
 use Rattle.drifters_demands.specs.Turn.{plain, thenSigns, matrixSigns, rowSigns, filterSigns, stateSigns, turned}
-use Rattle.drifters_entry.specs.Layout.{fromRun, stateFromRun}
+use Rattle.drifters_entry.specs.Layout.{velocityPlace, positionPlace, gammaPlace, deltaPlace, ePlace, sigmaPlace, gravityPlace, alphaPlace, filterLength, biasPlace, leverPlace, magPlace, stateLength, fromRun, stateFromRun}
 use Rattle.drifters_demands.proofs.Signs.GroupRecords.{axis-noTurn, LikeState}
 use Rattle.drifters_demands.proofs.Signs.FilterRecords.{LikeFilter}
 
@@ -108,6 +108,10 @@ like-plain : {n : ℕ} {a b : List Float} → LikeList (axis noTurn) n a b → L
 like-plain h = record { entry = λ i I. like-as (axis-noTurn i) (h .entry i I) }
 
 -- ---- a filter and its run, for the signs of the reference frame s
+-- how many numbers of a filter's run stand from a place on
+abbrev after : ℕ → ℕ
+after place = filterLength - place
+
 module _ (s : Signs) where
   -- the signs from gravity on, from the covariance on, and so on back to the velocity
   abbrev fromGravity : ℕ → Bool
@@ -125,60 +129,60 @@ module _ (s : Signs) where
   like-rotation : {a b : List Float} → LikeList (rowSigns s) 9 a b → LikeMatrix (axis s) (axis noTurn) 3 3 (take 9 a) (take 9 b)
   like-rotation h = like-matrix-as (λ i I. refl) (λ j J. sym (axis-noTurn j)) (like-part (axis s) plain 3 3 h)
 
-  pub like-fromRun : {a b : List Float} → LikeList (filterSigns s) 478 a b → LikeFilter s noTurn noTurn (fromRun a) (fromRun b)
+  pub like-fromRun : {a b : List Float} → LikeList (filterSigns s) filterLength a b → LikeFilter s noTurn noTurn (fromRun a) (fromRun b)
   unfolding fromRun
   like-fromRun {a} {b} h =
-      let h9 : LikeList fromVelocity 469 (drop 9 a) (drop 9 b) = like-rest 9 469 (rowSigns s) fromVelocity h in
-      let h24 : LikeList fromE 454 (drop 24 a) (drop 24 b) = rw (← drop-drop 15 9 a, ← drop-drop 15 9 b) (like-rest 15 454 (axis s) fromE h9) in
-      let h33 : LikeList fromSigma 445 (drop 33 a) (drop 33 b) = rw (← drop-drop 9 24 a, ← drop-drop 9 24 b) (like-rest 9 445 (rowSigns s) fromSigma h24) in
+      let velocityOn : LikeList fromVelocity (after velocityPlace) (drop velocityPlace a) (drop velocityPlace b) = like-rest 9 (after velocityPlace) (rowSigns s) fromVelocity h in
+      let eOn : LikeList fromE (after ePlace) (drop ePlace a) (drop ePlace b) = rw (← drop-drop 15 velocityPlace a, ← drop-drop 15 velocityPlace b) (like-rest 15 (after ePlace) (axis s) fromE velocityOn) in
+      let sigmaOn : LikeList fromSigma (after sigmaPlace) (drop sigmaPlace a) (drop sigmaPlace b) = rw (← drop-drop 9 ePlace a, ← drop-drop 9 ePlace b) (like-rest 9 (after sigmaPlace) (rowSigns s) fromSigma eOn) in
       record {
         x = record {
           c = record {
-            rotation = like-rotation (like-first 9 469 (rowSigns s) fromVelocity h);
-            velocity = record { x = h .entry 9 (lit< tt); y = h .entry 10 (lit< tt); z = h .entry 11 (lit< tt) };
-            position = record { x = h .entry 12 (lit< tt); y = h .entry 13 (lit< tt); z = h .entry 14 (lit< tt) };
+            rotation = like-rotation (like-first 9 (after velocityPlace) (rowSigns s) fromVelocity h);
+            velocity = record { x = h .entry velocityPlace (lit< tt); y = h .entry (velocityPlace + 1) (lit< tt); z = h .entry (velocityPlace + 2) (lit< tt) };
+            position = record { x = h .entry positionPlace (lit< tt); y = h .entry (positionPlace + 1) (lit< tt); z = h .entry (positionPlace + 2) (lit< tt) };
           };
           gamma = record {
-            omega = record { x = h .entry 15 (lit< tt); y = h .entry 16 (lit< tt); z = h .entry 17 (lit< tt) };
-            nu = record { x = h .entry 18 (lit< tt); y = h .entry 19 (lit< tt); z = h .entry 20 (lit< tt) };
+            omega = record { x = h .entry gammaPlace (lit< tt); y = h .entry (gammaPlace + 1) (lit< tt); z = h .entry (gammaPlace + 2) (lit< tt) };
+            nu = record { x = h .entry (gammaPlace + 3) (lit< tt); y = h .entry (gammaPlace + 4) (lit< tt); z = h .entry (gammaPlace + 5) (lit< tt) };
           };
-          delta = record { x = h .entry 21 (lit< tt); y = h .entry 22 (lit< tt); z = h .entry 23 (lit< tt) };
-          e = like-rotation (like-first 9 445 (rowSigns s) fromSigma h24);
+          delta = record { x = h .entry deltaPlace (lit< tt); y = h .entry (deltaPlace + 1) (lit< tt); z = h .entry (deltaPlace + 2) (lit< tt) };
+          e = like-rotation (like-first 9 (after sigmaPlace) (rowSigns s) fromSigma eOn);
         };
-        sigma = like-part (axis s) (axis s) 21 21 (like-first 441 4 (matrixSigns 21 (axis s) (axis s)) fromGravity h33);
-        gravity = record { x = h .entry 474 (lit< tt); y = h .entry 475 (lit< tt); z = h .entry 476 (lit< tt) };
-        alpha = h .entry 477 (lit< tt);
+        sigma = like-part (axis s) (axis s) 21 21 (like-first 441 (after gravityPlace) (matrixSigns 21 (axis s) (axis s)) fromGravity sigmaOn);
+        gravity = record { x = h .entry gravityPlace (lit< tt); y = h .entry (gravityPlace + 1) (lit< tt); z = h .entry (gravityPlace + 2) (lit< tt) };
+        alpha = h .entry alphaPlace (lit< tt);
       }
 
-  pub like-of-fromRun : (a b : List Float) → LikeFilter s noTurn noTurn (fromRun a) (fromRun b) → LikeList (filterSigns s) 478 a b
+  pub like-of-fromRun : (a b : List Float) → LikeFilter s noTurn noTurn (fromRun a) (fromRun b) → LikeList (filterSigns s) filterLength a b
   unfolding fromRun
   like-of-fromRun a b h =
-      let gravity : LikeList fromGravity 4 (drop 474 a) (drop 474 b) =
-      then-at a b 474 3 1 (axis s) plain (like-at-vec3 (axis s) a b 474 (h .gravity)) record {
-        entry = λ i I. let e : i ≡ 0 = omega arith in rw (getD-drop 477 a i nan, getD-drop 477 b i nan, e) (h .alpha);
+      let gravity : LikeList fromGravity (after gravityPlace) (drop gravityPlace a) (drop gravityPlace b) =
+      then-at a b gravityPlace 3 (after alphaPlace) (axis s) plain (like-at-vec3 (axis s) a b gravityPlace (h .gravity)) record {
+        entry = λ i I. let e : i ≡ 0 = omega arith in rw (getD-drop alphaPlace a i nan, getD-drop alphaPlace b i nan, e) (h .alpha);
       } in
-      let sigma : LikeList fromSigma 445 (drop 33 a) (drop 33 b) =
-      then-at a b 33 441 4 (matrixSigns 21 (axis s) (axis s)) fromGravity (like-of-part (axis s) (axis s) 21 21 (h .sigma)) gravity in
-      let e : LikeList fromE 454 (drop 24 a) (drop 24 b) = then-at a b 24 9 445 (rowSigns s) fromSigma (rotation-at a b 24 s (h .x .e)) sigma in
-      let vectors : LikeList (axis s) 15 (drop 9 a) (drop 9 b) =
-      vector-at a b 9 s 12 (h .x .c .velocity)
-      (vector-at a b 12 s 9 (h .x .c .position)
-      (vector-at a b 15 s 6 (h .x .gamma .omega) (vector-at a b 18 s 3 (h .x .gamma .nu) (like-at-vec3 (axis s) a b 21 (h .x .delta))))) in
-      then-at a b 0 9 469 (rowSigns s) fromVelocity (rotation-at a b 0 s (h .x .c .rotation)) (then-at a b 9 15 454 (axis s) fromE vectors e)
+      let sigma : LikeList fromSigma (after sigmaPlace) (drop sigmaPlace a) (drop sigmaPlace b) =
+      then-at a b sigmaPlace 441 (after gravityPlace) (matrixSigns 21 (axis s) (axis s)) fromGravity (like-of-part (axis s) (axis s) 21 21 (h .sigma)) gravity in
+      let e : LikeList fromE (after ePlace) (drop ePlace a) (drop ePlace b) = then-at a b ePlace 9 (after sigmaPlace) (rowSigns s) fromSigma (rotation-at a b ePlace s (h .x .e)) sigma in
+      let vectors : LikeList (axis s) 15 (drop velocityPlace a) (drop velocityPlace b) =
+      vector-at a b velocityPlace s 12 (h .x .c .velocity)
+      (vector-at a b positionPlace s 9 (h .x .c .position)
+      (vector-at a b gammaPlace s 6 (h .x .gamma .omega) (vector-at a b (gammaPlace + 3) s 3 (h .x .gamma .nu) (like-at-vec3 (axis s) a b deltaPlace (h .x .delta))))) in
+      then-at a b 0 9 (after velocityPlace) (rowSigns s) fromVelocity (rotation-at a b 0 s (h .x .c .rotation)) (then-at a b velocityPlace 15 (after ePlace) (axis s) fromE vectors e)
 
   -- a state's run: the pose turns, bias, lever arm and calibration do not
-  pub like-of-stateFromRun : (a b : List Float) → LikeState s noTurn noTurn (stateFromRun a) (stateFromRun b) → LikeList (stateSigns s) 33 a b
+  pub like-of-stateFromRun : (a b : List Float) → LikeState s noTurn noTurn (stateFromRun a) (stateFromRun b) → LikeList (stateSigns s) stateLength a b
   unfolding stateFromRun
   like-of-stateFromRun a b h =
-      let mag : LikeList (axis noTurn) 9 (drop 24 a) (drop 24 b) = record {
-        entry = λ i I. like-as (row-plain (i / 3) ∙ sym (axis-noTurn i)) (rotation-at a b 24 noTurn (h .mag) .entry i I);
+      let mag : LikeList (axis noTurn) 9 (drop magPlace a) (drop magPlace b) = record {
+        entry = λ i I. like-as (row-plain (i / 3) ∙ sym (axis-noTurn i)) (rotation-at a b magPlace noTurn (h .mag) .entry i I);
       } in
-      let rest : LikeList (axis noTurn) 18 (drop 15 a) (drop 15 b) =
-      vector-at a b 15 noTurn 15 (h .bias .omega)
-      (vector-at a b 18 noTurn 12 (h .bias .nu)
-      (vector-at a b 21 noTurn 9 (h .lever) mag)) in
-      let vectors : LikeList (axis s) 6 (drop 9 a) (drop 9 b) = vector-at a b 9 s 3 (h .pose .velocity) (like-at-vec3 (axis s) a b 12 (h .pose .position)) in
-      then-at a b 0 9 24 (rowSigns s) (thenSigns 6 (axis s) plain) (rotation-at a b 0 s (h .pose .rotation)) (then-at a b 9 6 18 (axis s) plain vectors (like-plain rest))
+      let rest : LikeList (axis noTurn) (stateLength - biasPlace) (drop biasPlace a) (drop biasPlace b) =
+      vector-at a b biasPlace noTurn 15 (h .bias .omega)
+      (vector-at a b (biasPlace + 3) noTurn 12 (h .bias .nu)
+      (vector-at a b leverPlace noTurn 9 (h .lever) mag)) in
+      let vectors : LikeList (axis s) 6 (drop velocityPlace a) (drop velocityPlace b) = vector-at a b velocityPlace s 3 (h .pose .velocity) (like-at-vec3 (axis s) a b positionPlace (h .pose .position)) in
+      then-at a b 0 9 (stateLength - velocityPlace) (rowSigns s) (thenSigns 6 (axis s) plain) (rotation-at a b 0 s (h .pose .rotation)) (then-at a b velocityPlace 6 (stateLength - biasPlace) (axis s) plain vectors (like-plain rest))
     where
       row-plain : (i : ℕ) → unlike (axis noTurn i) false ≡ false
       row-plain i = ap (λ t. unlike t false) (axis-noTurn i)
