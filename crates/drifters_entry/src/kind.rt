@@ -1,7 +1,6 @@
 // The kinds of call on a filter: the number of each, and how many numbers a call of it has and writes.
 ghost use mathlib.Core.Path.{_≡_};
-ghost use lib.ListN.{length};
-ghost use Rattle.drifters_entry.specs.Kind.{callLength, writtenLength, formOf, allKinds, kindOf, found};
+ghost use Rattle.drifters_entry.specs.Kind.{callLength, writtenLength, formOf, kindOf, found};
 use crate::entry::STATE_LENGTH;
 
 // The kinds that a sheet or a log may hold, in the order of their numbers.
@@ -97,11 +96,4 @@ pub fn kind_of(n: u32) -> FoundKind
         6 => FoundKind::Known(Kind::State),
         _ => FoundKind::Unknown,
     }
-}
-
-// How many kinds there are; the number after it is of no kind.
-pub fn kinds() -> u32
-    ensures { λ r. ⌜ r ≡ length allKinds ⌝ }
-{
-    6
 }

@@ -27,7 +27,7 @@ const RESULT_LENGTH: usize = 1;
 // How many numbers the run of a sine and a cosine has.
 const SIN_COS_LENGTH: usize = 2;
 
-// A filter from 477 numbers: 33 of a state, 441 of a covariance, 3 of gravity.
+// A filter from its first numbers: 33 of a state, 441 of a covariance, 3 of gravity.
 #[no_mangle]
 pub extern "C" fn drifters_start(filter: &mut [f64], numbers: &[f64]) -> u32
     ensures { λ r. ⌜ coded r (now (filter .exit)) [] ≡ codedOutcome (start (now (filter .entry)) (now (numbers .entry))) ⌝ }

@@ -6,7 +6,6 @@ use call_sheet::run::sheet_text;
 use call_sheet::sheet::Filled;
 use call_sheet::sheet::MOST_BYTES;
 use drifters_entry::entry::FILTER_LENGTH;
-use drifters_entry::kind::kinds;
 use drifters_eqf::filter::LENGTH_REFUSAL;
 use libc::STDOUT_FILENO;
 use little_endian::bytes::put_u32;
@@ -27,6 +26,9 @@ const BODY: usize = 4 + 8 * 2 + FILTER_BYTES;
 
 // Where a position call ends there: it has 12 numbers.
 const END: usize = BODY + 8 * 12;
+
+// A number that no kind has: the highest there is.
+const NO_KIND: u32 = 4294967295;
 
 // What a sheet is, and its text.
 fn report(name: &[u8], sheet: &[u8]) {
@@ -135,7 +137,7 @@ fn one_calls() {
     one_call(b"a byte too many", 2, BODY, END + 1);
     one_call(b"a byte too few", 2, BODY, END - 1);
     one_call(b"a state call", 6, BODY, BODY);
-    one_call(b"kind 7", kinds() + 1, BODY, END);
+    one_call(b"a number of no kind", NO_KIND, BODY, END);
     one_call(b"a second filter", 0, BODY, BODY + FILTER_BYTES);
 }
 
