@@ -25,8 +25,8 @@ use crate::layout::from_run;
 use crate::layout::mat3_at;
 use crate::layout::mat21_at;
 use crate::layout::state_from_run;
-use crate::layout::state_is_finite;
-use crate::layout::state_to_run;
+use crate::layout::state_numbers;
+use crate::layout::store;
 use crate::layout::symmetry_from_run;
 use crate::layout::to_run;
 use crate::layout::vec3_at;
@@ -354,9 +354,10 @@ fn write_estimate(run: &[f64], written: &mut [f64]) -> Answer
         symmetry_from_run(run),
         drifters_symmetry::group::State::default(),
     );
-    if !state_is_finite(state) {
+    let numbers = state_numbers(state.pose, state.bias, state.lever, state.mag);
+    if !all_finite(&numbers) {
         return Answer::Refused(RANGE_REFUSAL);
     }
-    state_to_run(state, written);
+    store(&numbers, written);
     Answer::Fine
 }

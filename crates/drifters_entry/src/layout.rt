@@ -142,7 +142,7 @@ fn store_vec3(v: Vec3, out: &mut [f64])
 }
 
 // The numbers `m`, into a run that is as long.
-fn store(m: &[f64], out: &mut [f64])
+pub(crate) fn store(m: &[f64], out: &mut [f64])
     requires { ⌜ length (now out) ≡ length (now m) ⌝ }
     ensures { λ _. ⌜ now (out .exit) ≡ now (m .entry) ⌝ }
 {
@@ -150,7 +150,7 @@ fn store(m: &[f64], out: &mut [f64])
 }
 
 // The 33 numbers that a group element and a state have alike: a pose, six numbers, a vector, a matrix.
-fn state_numbers(c: Se23, w: Se3Tangent, v: Vec3, m: Mat3) -> [f64; 33]
+pub(crate) fn state_numbers(c: Se23, w: Se3Tangent, v: Vec3, m: Mat3) -> [f64; 33]
     ensures { λ r. ⌜ r ≡ poseNumbers c ++ toArraySe3 w ++ toArray v ++ m .data ⌝ }
 {
     let a = c.rotation.data;
@@ -208,27 +208,10 @@ pub(crate) fn to_run(x: Symmetry, sigma: &[f64; 441], gravity: Vec3, alpha: f64,
     run[ALPHA] = alpha;
 }
 
-// A state into its run.
-pub(crate) fn state_to_run(xi: State, run: &mut [f64])
-    requires { ⌜ length (now run) ≡ stateLength ⌝ }
-    ensures { λ _. ⌜ now (run .exit) ≡ stateToRun xi ⌝ }
-{
-    let numbers = state_numbers(xi.pose, xi.bias, xi.lever, xi.mag);
-    store(&numbers, run);
-}
-
 // Every number of a filter is finite.
 pub(crate) fn filter_is_finite(x: Symmetry, sigma: &[f64; 441], gravity: Vec3, alpha: f64) -> bool
     ensures { λ r. ⌜ r ≡ allFinite (toRun (filterOf x (now (sigma .entry)) gravity alpha)) ⌝ }
 {
     let numbers = state_numbers(x.c, x.gamma, x.delta, x.e);
     all_finite(&numbers) & all_finite(sigma) & gravity.is_finite() & is_finite(alpha)
-}
-
-// Every number of a state is finite.
-pub(crate) fn state_is_finite(xi: State) -> bool
-    ensures { λ r. ⌜ r ≡ allFinite (stateToRun xi) ⌝ }
-{
-    let numbers = state_numbers(xi.pose, xi.bias, xi.lever, xi.mag);
-    all_finite(&numbers)
 }

@@ -13,26 +13,29 @@ use Rattle.drifters_entry.proofs.entry.write_estimate.Statement.{statem
 use Rattle.drifters_entry.proofs.entry.write_estimate.Tie as tie
 
 -- the outcome, by the test
-tested : (c : tie.After-state-is-finite) →
-    let a = c .before .before .before .before .before .before .args in
-    cond (c .state-is-finite .result) (outcome Fine (a .run .now) (stateToRun (c .before .act-state .result))) (refused rangeRefusal (a .run .now) (a .written .now))
+tested : (c : tie.After-all-finite) →
+    let n = c .before .before in
+    let a = n .before .before .before .before .before .before .args in
+    cond (c .all-finite .result) (outcome Fine (a .run .now) (n .state-numbers .result)) (refused rangeRefusal (a .run .now) (a .written .now))
     ≡ rangeChecked (performed estimate (fromRun (a .run .now)) (a .run .now) (a .written .now)) (a .run .now) (a .written .now)
-unfolding performed rangeChecked navState allFinite
+unfolding performed rangeChecked navState allFinite stateToRun
 tested c =
-    let e = c .before in
+    let n = c .before .before in
+    let e = n .before in
     let d = e .before in
     let s = d .before in
-    rw (← s .symmetry-from-run .ensures, ← d .default .ensures, ← e .act-state .ensures, ← c .state-is-finite .ensures, s .before .before .before .pre .2, and-true)
+    rw (← s .symmetry-from-run .ensures, ← d .default .ensures, ← e .act-state .ensures, ← n .state-numbers .ensures, ← c .all-finite .ensures, s .before .before .before .pre .2, and-true)
 
 returns : tie.Need-returns
-returns c = rw (not-true (c .before .state-is-finite .result) (c .if1 .taken)) at (tested (c .before))
+returns c = rw (not-true (c .before .all-finite .result) (c .if1 .taken)) at (tested (c .before))
 
 returns-2 : tie.Need-returns-2
 returns-2 c =
     let w = c .before .before in
-    let e = w .before .before in
-    rw (w .state-to-run .ensures) (rw (not-false (e .before .state-is-finite .result) (e .if1 .left)) at (tested (e .before)))
+    let e = w .before .before .before in
+    rw (w .store .ensures) (rw (not-false (e .before .all-finite .result) (e .if1 .left)) at (tested (e .before)))
 
 pub write-estimate-spec : {M : Type 1} → statement M
 write-estimate-spec =
-    tie.close (tie.spec (λ c κs. search needs) (λ c κs. tt) (λ c κs. tt) (λ c κs. tt) returns (λ c κs. search needs) (λ c. search needs) returns-2)
+    tie.close
+    (tie.spec (λ c κs. search needs) (λ c κs. tt) (λ c κs. tt) (λ c κs. tt) (λ c. search needs) (λ c κs. tt) returns (λ c. search needs) (λ c κs. search needs) (λ c. search needs) returns-2)
