@@ -101,7 +101,7 @@ rawFactor w f c noise = cholesky w (addMatrix (w * w) (projected w f c) noise)
 unfoldable pub inflatedFactor : ℕ → EqFilter → List Float → List Float → List Float → Float → Factor
 inflatedFactor w f c y noise alpha = cholesky w (inflate w y (projected w f c) noise alpha)
 
--- the 21 by w gain sigma cᵀ S⁻¹ for the inflated S: S is symmetric, so it is the transpose of a solve, which rounds less than an inverse
+-- the 21 by w gain sigma cᵀ S⁻¹ for the inflated S, as the transpose of a solve (S is symmetric but for rounding): a solve rounds less than an inverse
 unfoldable pub gain : ℕ → EqFilter → List Float → List Float → List Float → Float → List Float
 gain w f c y noise alpha = transpose w 21 (solve w 21 (entriesOf (inflatedFactor w f c y noise alpha)) (matmul w 21 21 c (f .sigma .«data»)))
 
@@ -125,7 +125,7 @@ correction w k c y noise = record {
 unfoldable pub step : Correction → Algebra
 step u = fromArray21 (u .delta)
 
--- the filter after a correction: the error is measured from the new estimate then, so the covariance is reset to it
+-- the filter after a correction: the error is then measured from the new estimate, so the covariance is moved to its coordinates, the reset
 unfoldable pub corrected : EqFilter → Correction → EqFilter
 corrected f u = record {
   x = compose (exp (step u)) (f .x);

@@ -137,7 +137,7 @@ impl EqFilter {
 
     // The update by a measurement, as far as the gain; `apply` does the rest. The answer is the normalised innovation squared before
     // inflation, which hides how unexpected the innovation is. The gain Σ cᵀ S⁻¹ is the transpose of a solve with the Cholesky factor of S,
-    // since S is symmetric: an inverse would cost more and round more.
+    // which is symmetric but for rounding: an inverse would cost more and round more.
     pub fn update(self, c: Mat3x21, innovation: Vec3, noise: Mat3, alpha: f64) -> Answered
         ensures { λ r. ⌜ r ≡ update 3 self (c .data) (toArray innovation) (noise .data) alpha ⌝ }
     {

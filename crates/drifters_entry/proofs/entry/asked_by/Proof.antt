@@ -7,7 +7,6 @@ use borrow.Author.Needs.{needs}
 use lib.ListN.{length}
 use lib.Ieee.{Float}
 use Rattle.drifters_eqf.specs.Filter.{Measurement, measurement3}
-use Rattle.drifters_eqf.specs.declared.filter.EqFilter.{EqFilter}
 use Rattle.drifters_eqf.specs.declared.filter.Measurement3.{Measurement3}
 use Rattle.drifters_entry.specs.Layout.{part, fromRun}
 use Rattle.drifters_entry.specs.Kind.{callLength}
@@ -21,21 +20,23 @@ use Rattle.drifters_entry.specs.declared.entry.Action.the-variants as ac
 use Rattle.drifters_entry.proofs.entry.asked_by.Statement.{statement}
 use Rattle.drifters_entry.proofs.entry.asked_by.Tie as tie
 
--- what is asked of a filter f by numbers v, where the kind is known to be K
-module _ (K : Kind) (f : EqFilter) (v : List Float) (r : Asked) {kind : Kind} (told : kind ≡ K) where
+-- what is asked of a filter's run by numbers v, where the kind is known to be K
+module _ (K : Kind) (run v : List Float) (r : Asked) {kind : Kind} (told : kind ≡ K) where
+  abbrev Asks : Type 0
+  Asks = (asRequest (r .action) r (fromRun run) v ≡ requestOf kind (fromRun run) v) × Readable (r .action) r v
+
   -- nothing is measured
-  unmeasured-asked : (a : Action) → r .action ≡ a → asRequest a r f v ≡ requestOf K f v → Readable a r v
-      → (asRequest (r .action) r f v ≡ requestOf kind f v) × Readable (r .action) r v
+  unmeasured-asked : (a : Action) → r .action ≡ a → asRequest a r (fromRun run) v ≡ requestOf K (fromRun run) v → Readable a r v → Asks
   unmeasured-asked a e asks reads = (
-    ap (λ (x : Action). asRequest x r f v) e ∙ asks ∙ ap (λ (k : Kind). requestOf k f v) (sym told),
+    ap (λ (x : Action). asRequest x r (fromRun run) v) e ∙ asks ∙ ap (λ (k : Kind). requestOf k (fromRun run) v) (sym told),
     subst (λ (x : Action). Readable x r v) (sym e) reads,
   )
 
-  -- m is measured, and its noise stands from place n on
-  measured-asked : (m : Measurement3) (n : ℕ) → r ≡ record { action = action.Update3; measurement = m; noise = n }
-      → measurement 3 (measurement3 m) (part v n 9) (f .alpha) ≡ requestOf K f v → n + 9 ≤ length v
-      → (asRequest (r .action) r f v ≡ requestOf kind f v) × Readable (r .action) r v
-  measured-asked m n e asks reads = rw (e, told) (asks, reads)
+  -- m is measured, which is z by its definition, and its noise stands from place n on
+  measured-asked : (m : Measurement3) (n : ℕ) {z : Measurement} → r ≡ record { action = action.Update3; measurement = m; noise = n } → measurement3 m ≡ z
+      → measurement 3 z (part v n 9) (fromRun run .alpha) ≡ requestOf K (fromRun run) v → length v ≡ callLength kind → n + 9 ≤ callLength K → Asks
+  measured-asked m n e is asks l reads =
+      rw (e, told) (ap (λ (y : Measurement). measurement 3 y (part v n 9) (fromRun run .alpha)) is ∙ asks, rw (l ∙ ap callLength told) reads)
 
 returns : tie.Need-returns
 returns c =
@@ -47,50 +48,28 @@ returns-2 : tie.Need-returns-2
 returns-2 c =
     let m = c .before in
     let t = m .before in
-    let s = t .before .before .before .before in
-    let told = t .enum-told2 .given .1 in
-    let v = s .args .numbers .now in
-    let f = fromRun (s .args .run .now) in
-    let l : length v ≡ callLength Position = s .pre .1 ∙ ap callLength told in
-    measured-asked Position f v (c .measured .result) told _ 3 (c .measured .ensures) (ap (λ (z : Measurement). measurement 3 z (part v 3 9) (f .alpha)) (m .position .ensures)) (omega (arith, l))
+    measured-asked Position _ _ (c .measured .result) (t .enum-told2 .given .1) _ 3 (c .measured .ensures) (m .position .ensures) refl (t .before .before .before .before .pre .1) (omega arith)
 
 returns-3 : tie.Need-returns-3
 returns-3 c =
     let m = c .before in
     let t = m .before in
-    let s = t .before .before .before .before in
-    let told = t .enum-told3 .given .1 in
-    let v = s .args .numbers .now in
-    let f = fromRun (s .args .run .now) in
-    let l : length v ≡ callLength Velocity = s .pre .1 ∙ ap callLength told in
-    measured-asked Velocity f v (c .measured2 .result) told _ 6 (c .measured2 .ensures) (ap (λ (z : Measurement). measurement 3 z (part v 6 9) (f .alpha)) (m .velocity .ensures)) (omega (arith, l))
+    measured-asked Velocity _ _ (c .measured2 .result) (t .enum-told3 .given .1) _ 6 (c .measured2 .ensures) (m .velocity .ensures) refl (t .before .before .before .before .pre .1) (omega arith)
 
 returns-4 : tie.Need-returns-4
 returns-4 c =
     let m = c .before in
     let t = m .before in
-    let s = t .before .before .before .before in
-    let told = t .enum-told4 .given .1 in
-    let v = s .args .numbers .now in
-    let f = fromRun (s .args .run .now) in
-    let l : length v ≡ callLength Direction = s .pre .1 ∙ ap callLength told in
-    measured-asked Direction f v (c .measured3 .result) told _ 6 (c .measured3 .ensures) (ap (λ (z : Measurement). measurement 3 z (part v 6 9) (f .alpha)) (m .direction .ensures)) (omega (arith, l))
+    measured-asked Direction _ _ (c .measured3 .result) (t .enum-told4 .given .1) _ 6 (c .measured3 .ensures) (m .direction .ensures) refl (t .before .before .before .before .pre .1) (omega arith)
 
 returns-5 : tie.Need-returns-5
 returns-5 c =
     let m = c .before in
     let t = m .before in
-    let s = t .before .before .before .before in
-    let told = t .enum-told5 .given .1 in
-    let v = s .args .numbers .now in
-    let f = fromRun (s .args .run .now) in
-    let l : length v ≡ callLength General = s .pre .1 ∙ ap callLength told in
-    measured-asked General f v (c .measured4 .result) told _ 66 (c .measured4 .ensures) (ap (λ (z : Measurement). measurement 3 z (part v 66 9) (f .alpha)) (m .general .ensures)) (omega (arith, l))
+    measured-asked General _ _ (c .measured4 .result) (t .enum-told5 .given .1) _ 66 (c .measured4 .ensures) (m .general .ensures) refl (t .before .before .before .before .pre .1) (omega arith)
 
 returns-6 : tie.Need-returns-6
-returns-6 c =
-    let t = c .before in
-    unmeasured-asked State _ _ (c .unmeasured2 .result) (t .enum-told6 .given .1) action.Estimate (c .unmeasured2 .ensures) refl tt
+returns-6 c = unmeasured-asked State _ _ (c .unmeasured2 .result) (c .before .enum-told6 .given .1) action.Estimate (c .unmeasured2 .ensures) refl tt
 
 pub asked-by-spec : {M : Type 1} → statement M
 asked-by-spec =

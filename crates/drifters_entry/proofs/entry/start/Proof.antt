@@ -1,42 +1,29 @@
 -- `entry::start` meets its contract.
 use mathlib.Core.Path.{_≡_}
 use mathlib.Core.Bool.{Bool, true, _&&_, and-eq-true-iff}
-use mathlib.Core.List.{List}
 use native.Mathlib.Omega.{arith}
 use borrow.Author.Needs.{needs}
 use borrow.Author.Tests.{eqb-true, not-true, not-false}
 use lib.Dec.{eqb}
 use lib.ListN.{length}
-use lib.Ieee.{Float}
 use Rattle.drifters_entry.specs.Layout.{filterLength, startLength}
 use Rattle.drifters_entry.specs.Entry.{started, start}
 use Rattle.drifters_entry.proofs.entry.start.Statement.{statement}
 use Rattle.drifters_entry.proofs.entry.start.Tie as tie
 
 -- the lengths, as the code tests them
-abbrev fit : List Float → List Float → Bool
-fit run v = eqb (length run) filterLength && eqb (length v) startLength
+abbrev fit : tie.After-shared-slice-known → Bool
+fit c = eqb (length (c .before .before .args .run .now)) filterLength && eqb (length (c .before .before .args .numbers .now)) startLength
 
 returns : tie.Need-returns
 unfolding start
-returns c =
-    let a = c .before .before .before .args in
-    rw (not-true (fit (a .run .now) (a .numbers .now)) (c .if1 .taken))
+returns c = rw (not-true (fit (c .before)) (c .if1 .taken))
 
-fits : (c : tie.Else1) →
-    let a = c .before .before .before .args in
-    fit (a .run .now) (a .numbers .now) ≡ true
-fits c =
-    let a = c .before .before .before .args in
-    not-false (fit (a .run .now) (a .numbers .now)) (c .if1 .left)
+fits : (c : tie.Else1) → fit (c .before) ≡ true
+fits c = not-false (fit (c .before)) (c .if1 .left)
 
-lengths : (c : tie.Else1) →
-    let a = c .before .before .before .args in
-    (length (a .run .now) ≡ filterLength) × (length (a .numbers .now) ≡ startLength)
-lengths c =
-    let a = c .before .before .before .args in
-    let both = and-eq-true-iff (eqb (length (a .run .now)) filterLength) (eqb (length (a .numbers .now)) startLength) .0 (fits c) in
-    (eqb-true _ _ (both .0), eqb-true _ _ (both .1))
+lengths : (c : tie.Else1) → (length (c .before .before .before .args .run .now) ≡ filterLength) × (length (c .before .before .before .args .numbers .now) ≡ startLength)
+lengths c = let both = and-eq-true-iff _ _ .0 (fits c) in (eqb-true _ _ (both .0), eqb-true _ _ (both .1))
 
 returns-2 : tie.Need-returns-2
 unfolding start
