@@ -39,7 +39,7 @@ unfoldable pub series : List Float → ℕ → List Float
 series m zero = identity 6
 series m (suc k) = addMatrix 36 (series m k) (seriesTerm m (suc k))
 
--- psi of w carried back over n halvings: ½ (I + Ad exp w) psi is that of 2 w
+-- psi of w, doubled back over n halvings: ½ (I + Ad exp w) psi is that of 2 w
 unfoldable pub doubled : ℕ → Se3Tangent → List Float → List Float
 doubled zero w psi = psi
 doubled (suc n) w psi = doubled n (scaledSe3 w two) (scaled 36 (matmul 6 6 6 (addMatrix 36 (identity 6) (adjointSe3 (expSe3 w))) psi) half)

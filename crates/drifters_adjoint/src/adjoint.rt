@@ -26,7 +26,7 @@ fn halve(v: Se3Tangent) -> Halved
     Halved { w, halvings: n }
 }
 
-// psi of w carried back over n halvings.
+// psi of w, doubled back over n halvings.
 fn double(n: usize, w: Se3Tangent, psi: Mat6) -> Mat6
     ensures { λ r. ⌜ r .data ≡ doubled n w (psi .data) ⌝ }
 {

@@ -17,7 +17,7 @@ pub struct Tally {
     first: u64,
 }
 
-// The sums wrap, so that no bound has to be carried along; no list is as long.
+// The sums wrap, so that no bound has to be kept; no list is as long.
 fn sum(a: u64, b: u64) -> u64 {
     wrapping_add_u64(a, b)
 }

@@ -46,7 +46,7 @@ impl Flight {
     }
 
     /// The swing's sine at the time, turned on by quarter turns, times its rate to a power.
-    fn along(&self, quarters: i32, power: i32) -> Vec3 {
+    fn swing(&self, quarters: i32, power: i32) -> Vec3 {
         let at = |(size, rate): (f64, f64)| {
             size * rate.powi(power) * (rate * self.time + f64::from(quarters) * std::f64::consts::FRAC_PI_2).sin()
         };
@@ -54,19 +54,19 @@ impl Flight {
     }
 
     fn position(&self) -> Vec3 {
-        self.along(0, 0)
+        self.swing(0, 0)
     }
 
     fn velocity(&self) -> Vec3 {
-        self.along(1, 1)
+        self.swing(1, 1)
     }
 
     fn acceleration(&self) -> Vec3 {
-        self.along(2, 2)
+        self.swing(2, 2)
     }
 
     fn rate(&self) -> Vec3 {
-        self.along(1, 1) * 0.05
+        self.swing(1, 1) * 0.05
     }
 
     fn error(&mut self, size: f64) -> Vec3 {
