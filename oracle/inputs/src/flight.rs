@@ -45,28 +45,28 @@ impl Flight {
         }
     }
 
-    /// The swing's sine at the time, turned on by quarter turns, times its rate to a power.
-    fn swing(&self, quarters: i32, power: i32) -> Vec3 {
+    /// The derivative of the swing of an order at the time: each one is a quarter turn on, and once more times the rate.
+    fn derivative(&self, order: i32) -> Vec3 {
         let at = |(size, rate): (f64, f64)| {
-            size * rate.powi(power) * (rate * self.time + f64::from(quarters) * std::f64::consts::FRAC_PI_2).sin()
+            size * rate.powi(order) * (rate * self.time + f64::from(order) * std::f64::consts::FRAC_PI_2).sin()
         };
         Vec3::from_array(self.swing.map(at))
     }
 
     fn position(&self) -> Vec3 {
-        self.swing(0, 0)
+        self.derivative(0)
     }
 
     fn velocity(&self) -> Vec3 {
-        self.swing(1, 1)
+        self.derivative(1)
     }
 
     fn acceleration(&self) -> Vec3 {
-        self.swing(2, 2)
+        self.derivative(2)
     }
 
     fn rate(&self) -> Vec3 {
-        self.swing(1, 1) * 0.05
+        self.derivative(1) * 0.05
     }
 
     fn error(&mut self, size: f64) -> Vec3 {
