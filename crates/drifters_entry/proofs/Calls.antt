@@ -1,7 +1,7 @@
 -- The laws of a call by its tests: the lengths, the finiteness of what comes in, and that of what is given out. Assumes nothing.
 use Prim.Native.Nat.{ℕ}
 use mathlib.Core.Path.{_≡_, refl, sym, ap, _∙_}
-use mathlib.Core.Bool.{Bool, true, false, not, cond, _&&_, false≢true, Bool·not-not}
+use mathlib.Core.Bool.{Bool, true, false, not, cond, _&&_, and-eq-true-iff, Bool·not-not}
 use mathlib.Core.List.{List, [], _∷_}
 use native.Mathlib.Omega.{arith}
 use lib.Dec.{eqb}
@@ -13,7 +13,8 @@ use Rattle.drifters_matrix.specs.Matrix.{allFinite}
 use Rattle.drifters_eqf.specs.Answer.{lengthRefusal, blankRefusal, rangeRefusal}
 use Rattle.drifters_entry.specs.Layout.{filterLength, fromRun, toRun}
 use Rattle.drifters_entry.specs.Kind.{formOf, callLength, writtenLength}
-use Rattle.drifters_entry.specs.Entry.{Request, requestOf, Outcome, outcome, outcomeOf, performed, refused, rangeCheckedAs, rangeChecked, lengthsFit, firstRefusal, call}
+use Rattle.drifters_entry.specs.Entry.{Request, requestOf, Outcome, outcome, outcomeOf, performed, refused, rangeCheckedAs, rangeChecked, lengthsFit, call}
+use Rattle.drifters_entry.specs.Asked.{firstRefusal}
 use Rattle.drifters_eqf.specs.declared.filter.Answer.{Answer}
 use Rattle.drifters_eqf.specs.declared.filter.Answer.the-variants.{Nis, Fine, Refused}
 use Rattle.drifters_eqf.specs.declared.filter.Answered.{Answered}
@@ -22,10 +23,6 @@ use Rattle.drifters_entry.proofs.Parts.{allFinite-one}
 use Rattle.drifters_entry.proofs.KindLaws.{writtenBy, kind-laws}
 
 -- ---- what is tested before a call is begun
-
-both-true : (s t : Bool) → s && t ≡ true → (s ≡ true) × (t ≡ true)
-both-true true t e = (refl, e)
-both-true false t e = absurd (false≢true e)
 
 -- no refusal: both tests hold
 none-refused : (s t : Bool) (r : ℕ) → r ≡ cond s (cond t 0 blankRefusal) lengthRefusal → r ≡ 0 → (s ≡ true) × (t ≡ true)
@@ -53,13 +50,13 @@ module _ (kind : Kind) (run v written : List Float) {r : ℕ} (e : r ≡ firstRe
   pub passed : r ≡ 0 → Passed kind run v written
   passed z =
       let both = none-refused (lengthsFit (formOf kind) run v (length written)) (allFinite run && allFinite v) r e z in
-      let runs = both-true (eqb (length run) filterLength && eqb (length v) (callLength kind)) (eqb (length written) (writtenLength kind)) (both .0) in
-      let fits = both-true (eqb (length run) filterLength) (eqb (length v) (callLength kind)) (runs .0) in
+      let runs = and-eq-true-iff _ (eqb (length written) (writtenLength kind)) .0 (both .0) in
+      let fits = and-eq-true-iff _ (eqb (length v) (callLength kind)) .0 (runs .0) in
       record {
         run-length = eqb-true (length run) filterLength (fits .0);
         v-length = eqb-true (length v) (callLength kind) (fits .1);
         written-length = eqb-true (length written) (writtenLength kind) (runs .1);
-        run-finite = both-true (allFinite run) (allFinite v) (both .1) .0;
+        run-finite = and-eq-true-iff _ (allFinite v) .0 (both .1) .0;
         finite = both .1;
       }
 

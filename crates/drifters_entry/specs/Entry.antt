@@ -97,10 +97,6 @@ rangeChecked o run written = rangeCheckedAs (o .answer) o run written
 abbrev pub lengthsFit : Form → List Float → List Float → ℕ → Bool
 lengthsFit form run v n = eqb (length run) filterLength && eqb (length v) (form .numbers) && eqb n (form .written)
 
--- the number of the refusal of a call of a form by length or blank, where its run to be written has n numbers; 0 where there is none
-abbrev pub firstRefusal : Form → List Float → List Float → ℕ → ℕ
-firstRefusal form run v n = cond (lengthsFit form run v n) (cond (allFinite run && allFinite v) 0 blankRefusal) lengthRefusal
-
 -- a call of a kind with the numbers v, on the filter's run; `written` is the run that a state call writes
 unfoldable pub call : Kind → List Float → List Float → List Float → Outcome
 call kind run v written =

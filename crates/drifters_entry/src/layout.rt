@@ -37,15 +37,23 @@ pub(crate) const GRAVITY: usize = SIGMA + 441;
 
 pub(crate) const ALPHA: usize = GRAVITY + 3;
 
+// The numbers `m`, into a run that is as long. The loop goes by `m`, whose length the compiler knows where `m` is an array.
+pub(crate) fn store(m: &[f64], out: &mut [f64])
+    requires { ⌜ length (now out) ≡ length (now m) ⌝ }
+    ensures { λ _. ⌜ now (out .exit) ≡ now (m .entry) ⌝ }
+{
+    for i in 0..m.len() {
+        out[i] = m[i];
+    }
+}
+
 // The numbers of `run` from `at` on, into `out`.
 pub(crate) fn copy_part(run: &[f64], at: usize, out: &mut [f64])
     requires { ⌜ at + length (now out) ≤ length (now run) ⌝ }
     ensures { λ _. ⌜ now (out .exit) ≡ part (now (run .entry)) at (length (now (out .entry))) ⌝ }
 {
-    let n = out.len();
-    for i in 0..n {
-        out[i] = run[at + i];
-    }
+    let end = at + out.len();
+    store(&run[at..end], out);
 }
 
 // Three numbers from `at` on, as a vector.
@@ -139,14 +147,6 @@ fn store_vec3(v: Vec3, out: &mut [f64])
     out[0] = v.x;
     out[1] = v.y;
     out[2] = v.z;
-}
-
-// The numbers `m`, into a run that is as long.
-pub(crate) fn store(m: &[f64], out: &mut [f64])
-    requires { ⌜ length (now out) ≡ length (now m) ⌝ }
-    ensures { λ _. ⌜ now (out .exit) ≡ now (m .entry) ⌝ }
-{
-    copy_part(m, 0, out);
 }
 
 // The 33 numbers that a group element and a state have alike: a pose, six numbers, a vector, a matrix.

@@ -19,20 +19,15 @@ pub fn u32_at(s: &[u8], at: usize) -> u32
 pub fn u64_at(s: &[u8], at: usize) -> u64
     ensures { λ r. ⌜ r ≡ u64At (now (s .entry)) at ⌝ }
 {
-    if fits(s.len(), at, 8) {
-        return u64_in(s, at);
-    }
-    u64_past(s, at, 0)
+    u64_from(s, at, 0)
 }
 
 // The u64s from a place on, as many as `out` has places.
 pub fn u64s_at(s: &[u8], at: usize, out: &mut [u64])
     ensures { λ _. ⌜ now (out .exit) ≡ u64sAt (length (now (out .entry))) (now (s .entry)) at ⌝ }
 {
-    if fits(s.len(), at, 8 * out.len()) {
-        u64s_in(s, at, out);
-    } else {
-        u64s_past(s, at, out);
+    for i in 0..out.len() {
+        out[i] = u64_from(s, at, 8 * i);
     }
 }
 
@@ -101,14 +96,15 @@ fn u64_in(s: &[u8], at: usize) -> u64
     u32_in(s, at) as u64 + 0x1_0000_0000 * u32_in(s, at + 4) as u64
 }
 
-// The u64s from a place on, where their bytes are there.
-fn u64s_in(s: &[u8], at: usize, out: &mut [u64])
-    requires { ⌜ at + 8 * length (now out) ≤ length (now s) ⌝ }
-    ensures { λ _. ⌜ now (out .exit) ≡ u64sAt (length (now (out .entry))) (now (s .entry)) at ⌝ }
+// The u64 from a place plus k on. The sum is made only where the bytes are there: else it might not fit.
+fn u64_from(s: &[u8], at: usize, k: usize) -> u64
+    requires { ⌜ k < 9223372036854775808 ⌝ }
+    ensures { λ r. ⌜ r ≡ u64At (now (s .entry)) (at + k) ⌝ }
 {
-    for i in 0..out.len() {
-        out[i] = u64_in(s, at + 8 * i);
+    if fits(s.len(), at, k + 8) {
+        return u64_in(s, at + k);
     }
+    u64_past(s, at, k)
 }
 
 // The byte at a place plus k, 0 past the end. The sum is never made where it might not fit.
@@ -142,13 +138,4 @@ fn u64_past(s: &[u8], at: usize, k: usize) -> u64
     ensures { λ r. ⌜ r ≡ u64At (now (s .entry)) (at + k) ⌝ }
 {
     u32_past(s, at, k) as u64 + 0x1_0000_0000 * u32_past(s, at, k + 4) as u64
-}
-
-// The u64s from a place on, where bytes may be missing.
-fn u64s_past(s: &[u8], at: usize, out: &mut [u64])
-    ensures { λ _. ⌜ now (out .exit) ≡ u64sAt (length (now (out .entry))) (now (s .entry)) at ⌝ }
-{
-    for i in 0..out.len() {
-        out[i] = u64_past(s, at, 8 * i);
-    }
 }

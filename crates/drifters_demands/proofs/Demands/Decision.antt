@@ -23,6 +23,7 @@ use Rattle.drifters_eqf.specs.declared.filter.Answer.the-variants.{Nis, Fine, R
 use Rattle.drifters_eqf.specs.declared.filter.Answered.{Answered}
 use Rattle.drifters_entry.specs.declared.kind.Kind.{Kind}
 use Rattle.drifters_entry.proofs.KindLaws.{writtenBy, Numbered, kind-laws}
+use Rattle.drifters_entry.proofs.Calls.{no-numbers}
 
 -- ---- decisions
 
@@ -109,10 +110,6 @@ module _ (run written : List Float) where
   unfolding firstOf rangeChecked
   in-range o passed h e = rw (range-checked (o .answer) o h, ← e) (check 4 (finiteOutcome o) o (λ q. accepts h q))
 
-empty : (l : List Float) → length l ≡ 0 → l ≡ []
-empty [] h = refl
-empty (x ∷ l) h = absurd (suc-ne-zero (length l) h)
-
 -- ---- what is asked of the filter
 
 request-decision :
@@ -124,7 +121,7 @@ request-decision (refusal (suc n)) f run written finite own none = refuses n
 request-decision (propagation u dt q) f run written finite own none =
     check-answered 2 (turnFits (halfStep f u dt)) _ f
     (check-answered 2 (turnFits (fullStep f u dt)) _ f
-    (in-range run written (acceptedOutcome (propagation u dt q) f run written) (allFinite (toRun (propagated f u dt q))) refl (rw (empty written none))))
+    (in-range run written (acceptedOutcome (propagation u dt q) f run written) (allFinite (toRun (propagated f u dt q))) refl (rw (no-numbers written none))))
 request-decision (measurement w m noise alpha) f run written finite own none =
     let c = m .output in
     let y = m .innovation in

@@ -4,7 +4,8 @@ use mathlib.Core.Bool.{cond, _&&_}
 use borrow.Author.Tests.{not-true, not-false}
 use lib.ListN.{length}
 use Rattle.drifters_eqf.specs.Answer.{blankRefusal}
-use Rattle.drifters_entry.specs.Entry.{lengthsFit, firstRefusal}
+use Rattle.drifters_entry.specs.Entry.{lengthsFit}
+use Rattle.drifters_entry.specs.Asked.{firstRefusal}
 use Rattle.drifters_entry.proofs.entry.first_refusal.Statement.{statement}
 use Rattle.drifters_entry.proofs.entry.first_refusal.Tie as tie
 
