@@ -156,11 +156,11 @@ impl EqFilter {
             return refuse(PIVOT_REFUSAL, self);
         }
         let gain = chol.factor.solve(c_sigma).transpose();
-        let delta = gain.matmul_vector(y);
+        let column = gain.matmul_vector(y);
         let kc = gain.matmul21(c);
         let share = gain.matmul3(noise).mul_transpose(gain);
-        let correction = delta.data;
-        self.apply(r, correction, &kc.data, &share.data)
+        let delta = column.data;
+        self.apply(r, delta, &kc.data, &share.data)
     }
 
     // A correction applied, with r for an answer: composed on the left, then the Joseph form and the reset, since the error is measured from
