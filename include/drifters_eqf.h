@@ -11,7 +11,7 @@
  *
  * MACHINE. The functions keep nothing between calls and take no heap: threads may call them at once on runs of their own. They call memcpy
  * and memset only. The floating-point mode must be the usual one: round to nearest, no flush to zero, exceptions masked. Stack, measured and
- * not proved: about 55 kB for a call on a filter, 130 kB for a sheet.
+ * not proved: about 50 kB for a call on a filter, 125 kB for a sheet.
  *
  * LAYOUT, places counted from 0, matrices row by row:
  *

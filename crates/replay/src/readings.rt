@@ -92,8 +92,8 @@ pub(crate) fn print_lengths() {
     let mut short = [0.0; FILTER_LENGTH - 1];
     let mut run = [0.0; FILTER_LENGTH];
     let mut long = [0.0; FILTER_LENGTH + 1];
-    refused(b"a filter of 477 numbers", &mut short, 1);
-    refused(b"a filter of 479 numbers", &mut long, 1);
+    refused(b"a filter one number short", &mut short, 1);
+    refused(b"a filter one number long", &mut long, 1);
     refused(b"a number too few", &mut run, 2);
     refused(b"a number too many", &mut run, 0);
     refused(b"every length as stated", &mut run, 1);
