@@ -1,73 +1,18 @@
-//! A short flight: start, a propagation, each update, a refused update, the estimate, and a call sheet. flight.c is the same in C.
-use drifters_port::{run_sheet, Filter, Refusal};
+//! A short flight: start, a propagation, each update, a refused update, the estimate, and a call sheet. flight.c is
+//! the same in C.
+use std::array::from_fn;
+use std::process::ExitCode;
+
+use drifters_port::places::coordinate;
+use drifters_port::{diagonal, kind, run_sheet_into};
+use drifters_port::{Densities, Deviations, Direction, Filter, Fix, General, Imu, Start};
 use drifters_port::{
-    ALPHA, DIRECTION_LENGTH, E, FILTER_LENGTH, GRAVITY, POSITION_LENGTH, PROPAGATE_LENGTH, SIGMA,
-    START_LENGTH, STATES, UPDATE_LENGTH, VELOCITY_LENGTH,
+    Refusal, State, VelocityFix, FILTER_LENGTH, POSITION_LENGTH, STATES, TEXT_LENGTH,
 };
-
-/// Where the innovation of a general update begins: after an output matrix of three rows.
-const INNOVATION: usize = 3 * STATES;
-
-/// How many calls the sheet has, and the bytes of its table.
-const CALLS: usize = 3;
-const TABLE_BYTES: usize = 4 + 8 * (1 + CALLS);
-
-/// A 3 by 3 matrix with x on its diagonal, at the front of `to`.
-fn diagonal(to: &mut [f64], x: f64) {
-    to[0] = x;
-    to[4] = x;
-    to[8] = x;
-}
-
-fn put_u32(bytes: &mut Vec<u8>, n: usize) {
-    bytes.extend((n as u32).to_le_bytes());
-}
-
-fn put_numbers(bytes: &mut Vec<u8>, numbers: &[f64]) {
-    for x in numbers {
-        bytes.extend(x.to_le_bytes());
-    }
-}
-
-/// Three position calls on a filter with identity A and E and alpha 0.5.
-fn sheet() -> Vec<u8> {
-    let mut bytes = Vec::new();
-    let mut filter = [0.0; FILTER_LENGTH];
-    diagonal(&mut filter, 1.0);
-    diagonal(&mut filter[E..], 1.0);
-    filter[ALPHA] = 0.5;
-    let mut call = [0.0; POSITION_LENGTH];
-    put_u32(&mut bytes, 1 + CALLS);
-    put_u32(&mut bytes, 0);
-    put_u32(&mut bytes, TABLE_BYTES);
-    for i in 0..CALLS {
-        put_u32(&mut bytes, 2);
-        put_u32(
-            &mut bytes,
-            TABLE_BYTES + 8 * (FILTER_LENGTH + i * POSITION_LENGTH),
-        );
-    }
-    put_numbers(&mut bytes, &filter);
-    diagonal(&mut call[3..], 1.0);
-    put_numbers(&mut bytes, &call);
-    call[0] = 1.0;
-    put_numbers(&mut bytes, &call);
-    call[0] = 0.0;
-    diagonal(&mut call[3..], -1.0);
-    put_numbers(&mut bytes, &call);
-    bytes
-}
 
 /// A number by its bits and in decimal.
 fn print_number(x: f64) {
     println!(" {:016X} {x:.9}", x.to_bits());
-}
-
-fn print_done(name: &str, answer: Result<(), Refusal>) {
-    match answer {
-        Ok(()) => println!("{name} ok"),
-        Err(refusal) => println!("{name} refused {}", refusal.number()),
-    }
 }
 
 fn print_update(name: &str, answer: Result<f64, Refusal>) {
@@ -80,68 +25,191 @@ fn print_update(name: &str, answer: Result<f64, Refusal>) {
     }
 }
 
-fn main() -> Result<(), Refusal> {
-    // level and at rest, with some doubt in every direction
-    let mut numbers = [0.0; START_LENGTH];
-    diagonal(&mut numbers, 1.0);
-    diagonal(&mut numbers[E..], 1.0);
-    for i in 0..STATES {
-        numbers[SIGMA + i * (STATES + 1)] = 0.01;
-    }
-    numbers[GRAVITY + 2] = 9.81;
-    let mut filter = Filter::start(&numbers)?;
+/// Level and at rest at the origin, with some doubt in every direction. Alpha is 0.5 after a start, too much for most
+/// flights: docs/MANUAL.md says why.
+fn start() -> Result<Filter, Refusal> {
+    let state = State::default();
+    let deviations = Deviations {
+        attitude: [0.1; 3],
+        velocity: [0.1; 3],
+        position: [0.1; 3],
+        gyro_bias: [0.1; 3],
+        accel_bias: [0.1; 3],
+        lever: [0.1; 3],
+        mag: [0.1; 3],
+    };
+    let start = Start {
+        state,
+        sigma: deviations.sigma(&state),
+        gravity: [0.0, 0.0, 9.81],
+    };
+    let mut filter = Filter::start(&start.numbers())?;
+    filter.set_alpha(0.01);
     println!("start ok");
+    Ok(filter)
+}
 
-    // ten milliseconds of a slow turn under thrust
-    let mut propagate = [0.0; PROPAGATE_LENGTH];
-    propagate[..7].copy_from_slice(&[0.01, -0.02, 0.03, 0.5, 0.0, -9.81, 0.01]);
-    propagate[7..13].fill(0.001);
-    propagate[13..19].fill(0.00001);
-    print_done("propagate", filter.propagate(&propagate));
+/// Ten milliseconds of a slow turn under thrust.
+fn propagate(filter: &mut Filter) -> Result<(), Refusal> {
+    let imu = Imu {
+        omega: [0.01, -0.02, 0.03],
+        accel: [0.5, 0.0, -9.81],
+        dt: 0.01,
+    };
+    let densities = Densities {
+        gyro: [0.001; 3],
+        accel: [0.001; 3],
+        gyro_bias: [0.00001; 3],
+        accel_bias: [0.00001; 3],
+        ..Densities::default()
+    };
+    filter.propagate(&imu.numbers(&densities))?;
+    println!("propagate ok");
+    Ok(())
+}
 
-    let mut position = [0.0; POSITION_LENGTH];
-    position[..3].copy_from_slice(&[0.25, -0.5, 0.125]);
-    diagonal(&mut position[3..], 0.25);
-    print_update("update_position", filter.update_position(&position));
+/// An antenna position with the given variance on each axis.
+fn update_position(filter: &mut Filter, variance: f64) {
+    let fix = Fix {
+        antenna: [0.25, -0.5, 0.125],
+        noise: diagonal([variance; 3]),
+    };
+    print_update("update_position", filter.update_position(&fix.numbers()));
+}
 
-    let mut velocity = [0.0; VELOCITY_LENGTH];
-    velocity[..6].copy_from_slice(&[0.0625, 0.0, -0.03125, 0.01, -0.02, 0.03]);
-    diagonal(&mut velocity[6..], 0.04);
-    print_update("update_velocity", filter.update_velocity(&velocity));
+fn update_velocity(filter: &mut Filter) {
+    let fix = VelocityFix {
+        antenna: [0.0625, 0.0, -0.03125],
+        omega: [0.01, -0.02, 0.03],
+        noise: diagonal([0.04; 3]),
+    };
+    print_update("update_velocity", filter.update_velocity(&fix.numbers()));
+}
 
-    let mut direction = [0.0; DIRECTION_LENGTH];
-    direction[..6].copy_from_slice(&[0.875, 0.125, 0.5, 1.0, 0.0, 0.5]);
-    diagonal(&mut direction[6..], 0.01);
-    print_update("update_direction", filter.update_direction(&direction));
-
-    // the position's part of the error, seen directly
-    let mut update = [0.0; UPDATE_LENGTH];
-    for i in 0..3 {
-        update[i * STATES + 6 + i] = 1.0;
-    }
-    update[INNOVATION..INNOVATION + 3].copy_from_slice(&[0.125, 0.0, -0.25]);
-    diagonal(&mut update[INNOVATION + 3..], 0.5);
-    print_update("update", filter.update(&update));
-
-    // noise that no matrix with a Cholesky factor has
-    let before = filter.clone();
-    diagonal(&mut position[3..], -1.0);
-    print_update("update_position", filter.update_position(&position));
-    println!(
-        "filter {}",
-        if filter == before {
-            "unchanged"
-        } else {
-            "changed"
-        }
+fn update_direction(filter: &mut Filter) {
+    let field = Direction {
+        measured: [0.875, 0.125, 0.5],
+        north: [1.0, 0.0, 0.5],
+        noise: diagonal([0.01; 3]),
+    };
+    print_update(
+        "update_direction",
+        filter.update_direction(&field.numbers()),
     );
+}
 
+/// The position of the sensor itself, as a tracker on the ground sees it: predicted minus measured. m^ stands on the
+/// attitude's columns, where m is halfway between the two.
+fn update(filter: &mut Filter) {
+    let tracked = [0.125, 0.0, -0.25];
+    let predicted = filter.position();
+    let m: [f64; 3] = from_fn(|i| (predicted[i] + tracked[i]) * 0.5);
+    let mut output = [[0.0; STATES]; 3];
+    for (i, row) in output.iter_mut().enumerate() {
+        let (j, k) = ((i + 1) % 3, (i + 2) % 3);
+        row[coordinate::ATTITUDE + j] = -m[k];
+        row[coordinate::ATTITUDE + k] = m[j];
+        row[coordinate::POSITION + i] = -1.0;
+    }
+    let seen = General {
+        output,
+        innovation: from_fn(|i| predicted[i] - tracked[i]),
+        noise: diagonal([0.5; 3]),
+    };
+    print_update("update", filter.update(&seen.numbers()));
+}
+
+/// A variance below 0: no such matrix has a Cholesky factor. The refused update changes nothing.
+fn refused_update(filter: &mut Filter) {
+    let before = filter.clone();
+    update_position(filter, -1.0);
+    let word = if *filter == before {
+        "unchanged"
+    } else {
+        "changed"
+    };
+    println!("filter {word}");
+}
+
+fn print_state(filter: &Filter) -> Result<(), Refusal> {
+    let state = filter.nav_state()?;
     println!("nav_state");
-    for x in filter.nav_state()? {
+    for x in state.numbers() {
         print_number(x);
     }
-
-    println!("run_sheet");
-    print!("{}", run_sheet(&sheet()));
     Ok(())
+}
+
+fn put_u32(bytes: &mut Vec<u8>, n: u32) {
+    bytes.extend(n.to_le_bytes());
+}
+
+fn put_numbers(bytes: &mut Vec<u8>, numbers: &[f64]) {
+    for x in numbers {
+        bytes.extend(x.to_le_bytes());
+    }
+}
+
+/// A position call of the sheet: an antenna at (x, 0, 0), the same variance on each axis.
+fn position(x: f64, variance: f64) -> [f64; POSITION_LENGTH] {
+    let fix = Fix {
+        antenna: [x, 0.0, 0.0],
+        noise: diagonal([variance; 3]),
+    };
+    fix.numbers()
+}
+
+/// The sheet of a filter and position calls: a count, a kind and an offset for each entry, then the numbers.
+fn sheet(filter: &Filter, calls: &[[f64; POSITION_LENGTH]]) -> Vec<u8> {
+    let entries = 1 + calls.len();
+    let table_bytes = 4 + 8 * entries;
+    let mut bytes = Vec::new();
+    put_u32(&mut bytes, entries as u32);
+    put_u32(&mut bytes, kind::FILTER);
+    put_u32(&mut bytes, table_bytes as u32);
+    for i in 0..calls.len() {
+        let offset = table_bytes + 8 * (FILTER_LENGTH + i * POSITION_LENGTH);
+        put_u32(&mut bytes, kind::POSITION);
+        put_u32(&mut bytes, offset as u32);
+    }
+    put_numbers(&mut bytes, &filter.0);
+    put_numbers(&mut bytes, calls.as_flattened());
+    bytes
+}
+
+/// Three position calls on a filter that is certain of all and knows no gravity.
+fn run_sheet() -> Result<(), Refusal> {
+    let start = Start {
+        state: State::default(),
+        sigma: diagonal([0.0; STATES]),
+        gravity: [0.0; 3],
+    };
+    let filter = Filter::start(&start.numbers())?;
+    let calls = [position(0.0, 1.0), position(1.0, 1.0), position(0.0, -1.0)];
+    let mut text = [0; TEXT_LENGTH];
+    println!("run_sheet");
+    print!("{}", run_sheet_into(&sheet(&filter, &calls), &mut text));
+    Ok(())
+}
+
+fn flight() -> Result<(), Refusal> {
+    let mut filter = start()?;
+    propagate(&mut filter)?;
+    update_position(&mut filter, 0.25);
+    update_velocity(&mut filter);
+    update_direction(&mut filter);
+    update(&mut filter);
+    refused_update(&mut filter);
+    print_state(&filter)?;
+    run_sheet()
+}
+
+fn main() -> ExitCode {
+    match flight() {
+        Ok(()) => ExitCode::SUCCESS,
+        Err(refusal) => {
+            eprintln!("flight: {refusal}");
+            ExitCode::FAILURE
+        }
+    }
 }

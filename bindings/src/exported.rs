@@ -1,4 +1,5 @@
-//! The functions of libdrifters_eqf_c.a, with each run as a slice. Each answers a code. Here is all the unsafe code of the crate.
+//! The functions of libdrifters_eqf_c.a, with each run as a slice. Each answers a code. Here is all the unsafe code
+//! of the crate.
 
 mod c {
     // As in include/drifters_eqf.h.
@@ -66,8 +67,8 @@ mod c {
     }
 }
 
-// SAFETY, throughout: the library is proved to read and write only the runs that it is lent, for every length and every number, and slices
-// of one call are valid and do not overlap.
+// SAFETY, throughout: the library is proved to read and write only the runs that it is lent, for every length and
+// every number, and slices of one call are valid and do not overlap.
 
 pub fn start(filter: &mut [f64], numbers: &[f64]) -> u32 {
     unsafe {

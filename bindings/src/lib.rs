@@ -1,173 +1,141 @@
-//! The proved equivariant filter, on slices. include/drifters_eqf.h has the layout of each run; a refused call changes nothing.
-use std::fmt;
+//! The proved equivariant navigation filter of 21 states, from libdrifters_eqf_c.a.
+//!
+//! A flight: a start from a state and its standard deviations, samples of the inertial sensor, and updates by what
+//! was measured.
+//!
+//! ```
+//! use drifters_port::{diagonal, Densities, Deviations, Direction, Filter, Fix, Imu, Start, State, VelocityFix};
+//!
+//! // the first estimate, and how far it may be off
+//! let state = State { position: [0.0, 0.0, -3000.0], lever: [0.4, 0.0, -1.2], ..State::default() };
+//! let deviations = Deviations {
+//!     attitude: [0.05, 0.05, 0.5],
+//!     velocity: [0.5; 3],
+//!     position: [5.0; 3],
+//!     gyro_bias: [0.002; 3],
+//!     accel_bias: [0.05; 3],
+//!     lever: [0.02; 3],
+//!     mag: [0.03; 3],
+//! };
+//! let start = Start { state, sigma: deviations.sigma(&state), gravity: [0.0, 0.0, 9.81] };
+//! let mut filter = Filter::start(&start.numbers())?;
+//! // a start sets alpha to 0.5, which can keep a filter from converging: the manual says why
+//! filter.set_alpha(0.01);
+//!
+//! // a second of the inertial sensor at 100 Hz, turning at 0.02 rad/s about the vertical
+//! let densities = Densities {
+//!     gyro: [1e-7; 3],
+//!     accel: [1e-5; 3],
+//!     gyro_bias: [1e-11; 3],
+//!     accel_bias: [1e-8; 3],
+//!     ..Densities::default()
+//! };
+//! let imu = Imu { omega: [0.0, 0.0, 0.02], accel: [0.0, 0.0, -9.81], dt: 0.01 };
+//! for _ in 0..100 {
+//!     filter.propagate(&imu.numbers(&densities))?;
+//! }
+//!
+//! // what was measured: each update gives its normalised innovation squared
+//! let fix = Fix { antenna: [0.41, 0.02, -3001.19], noise: diagonal([0.01, 0.01, 0.04]) };
+//! let nis = filter.update_position(&fix.numbers())?;
+//! assert!(nis < 12.0);
+//! let fix = VelocityFix { antenna: [0.0, 0.01, 0.0], omega: imu.omega, noise: diagonal([0.0025; 3]) };
+//! filter.update_velocity(&fix.numbers())?;
+//! let field = Direction { measured: [0.4, -0.01, 0.9], north: [0.4, 0.0, 0.9], noise: diagonal([4e-4; 3]) };
+//! filter.update_direction(&field.numbers())?;
+//!
+//! // the estimate
+//! let estimate = filter.nav_state()?;
+//! assert!((estimate.position[2] + 3000.0).abs() < 0.1);
+//! # Ok::<(), drifters_port::Refusal>(())
+//! ```
+//!
+//! # Frames, units, signs
+//!
+//! - SI units; angles in radians; matrices row by row.
+//! - Reference frame: north-east-down, or any frame fixed to the ground; gravity is given in it. Body frame: the
+//!   mount's inertial sensor. Compass frame: the magnetometer's.
+//! - The attitude R rotates a body vector into the reference frame, the calibration S a compass vector into the body
+//!   frame. Velocity v and position p are in the reference frame; biases and the lever arm t, from the inertial
+//!   sensor to the antenna, in the body frame.
+//! - `omega` and `accel` are the sensor's readings; `accel` is the specific force, (0, 0, -9.81) level and at rest:
+//!   R' = R (omega - gyro_bias)^, v' = R (accel - accel_bias) + gravity, p' = v.
+//! - Measured are p + R t, v + R (omega x t) and S^T R^T north. A general update takes predicted less measured.
+//! - Noise is a covariance, in the reference frame. Densities are power spectral densities, not their roots.
+//! - A first covariance is that of the 21 error coordinates, not of the state's parts: [`Deviations::sigma`] makes it.
+//!
+//! docs/MANUAL.md of the repository has all of this at length; include/drifters_eqf.h says what the library asks of
+//! the machine: the usual floating-point mode, and about 50 kB of stack for a call, 125 kB for a sheet.
+//!
+//! # What is proved
+//!
+//! The calls themselves, [`run_sheet_into`], [`sin_cos`] and [`sqrt`] are the library's. The crate's part is not
+//! proved: the declarations of the library's functions, the order of an input's numbers and [`Deviations::sigma`].
+//! They are tested.
+//!
+//! # Building
+//!
+//! DRIFTERS_EQF_LIB_DIR names the folder of libdrifters_eqf_c.a, as `rt staticlib drifters_eqf_c` writes it (x86-64
+//! Linux). Without it the build script warns; `cargo doc` and `cargo check` go on, and what links fails.
+//!
+//! The crate needs core alone. The feature `std`, on by default, adds `run_sheet`, which gives a `String`.
+#![no_std]
+#![deny(missing_docs)]
 
+#[cfg(any(feature = "std", test))]
+extern crate std;
+
+mod deviations;
 mod exported;
+mod filter;
+mod inputs;
+pub mod kind;
+pub mod places;
+mod refusal;
+mod runs;
+mod scalar;
+mod sheet;
+mod state;
 
 #[cfg(test)]
 mod tests;
 
-/// How many states the covariance has.
+/// The manual's programs in Rust are doc tests.
+#[cfg(doctest)]
+#[doc = include_str!("../../docs/MANUAL.md")]
+struct Manual;
+
+pub use deviations::Deviations;
+pub use filter::Filter;
+pub use inputs::{diagonal, Densities, Direction, Fix, General, Imu, Start, VelocityFix};
+pub use refusal::Refusal;
+pub use scalar::{sin_cos, sqrt};
+#[cfg(feature = "std")]
+pub use sheet::run_sheet;
+pub use sheet::run_sheet_into;
+pub use state::State;
+
+/// The crate's version.
+pub const VERSION: &str = env!("CARGO_PKG_VERSION");
+
+/// How many error coordinates there are: rows and columns of the covariance.
 pub const STATES: usize = 21;
-/// Where the parts of a filter begin; A is at 0. A state has its biases, lever arm and calibration at the places of gamma, delta and E; a start
-/// is a filter without alpha.
-pub const VELOCITY: usize = 9;
-pub const POSITION: usize = VELOCITY + 3;
-pub const GAMMA: usize = POSITION + 3;
-pub const DELTA: usize = GAMMA + 6;
-pub const E: usize = DELTA + 3;
-pub const SIGMA: usize = E + 9;
-pub const GRAVITY: usize = SIGMA + STATES * STATES;
-pub const ALPHA: usize = GRAVITY + 3;
 
 /// How many numbers a filter has.
-pub const FILTER_LENGTH: usize = ALPHA + 1;
+pub const FILTER_LENGTH: usize = places::filter::ALPHA + 1;
 /// How many numbers a state has.
-pub const STATE_LENGTH: usize = SIGMA;
-/// How many numbers a start takes: a state, a covariance, gravity.
-pub const START_LENGTH: usize = ALPHA;
-/// How many numbers each call takes: `Filter`'s methods say which.
-pub const PROPAGATE_LENGTH: usize = 25;
-pub const POSITION_LENGTH: usize = 12;
-pub const VELOCITY_LENGTH: usize = 15;
-pub const DIRECTION_LENGTH: usize = 15;
-pub const UPDATE_LENGTH: usize = 75;
+pub const STATE_LENGTH: usize = places::state::MAG + 9;
+/// How many numbers a start takes.
+pub const START_LENGTH: usize = places::start::GRAVITY + 3;
+/// How many numbers a propagation takes.
+pub const PROPAGATE_LENGTH: usize = places::propagate::MAG_DENSITY + 3;
+/// How many numbers an update by position takes.
+pub const POSITION_LENGTH: usize = places::position::NOISE + 9;
+/// How many numbers an update by velocity takes.
+pub const VELOCITY_LENGTH: usize = places::velocity::NOISE + 9;
+/// How many numbers an update by direction takes.
+pub const DIRECTION_LENGTH: usize = places::direction::NOISE + 9;
+/// How many numbers a general update takes.
+pub const UPDATE_LENGTH: usize = places::update::NOISE + 9;
 /// How many bytes hold the text of every sheet.
 pub const TEXT_LENGTH: usize = 5865;
-
-/// Why a call was refused, by its number.
-#[derive(Clone, Copy, Debug, PartialEq, Eq)]
-pub enum Refusal {
-    /// A run is not of its stated length.
-    Length = 1,
-    /// A number of the filter or of the call is infinite or not a number.
-    Blank = 2,
-    /// At an exponential, the norm of a rotation vector is not a number at most 8.
-    Turn = 3,
-    /// The innovation covariance, raw or inflated, has no Cholesky factor: the original's `None`.
-    Pivot = 4,
-    /// A result is not finite.
-    Range = 5,
-    /// A call sheet breaks its layout. It stands in a sheet's text only.
-    Sheet = 6,
-}
-
-impl Refusal {
-    /// The refusal of a number, as a sheet's text has it.
-    pub fn of_number(number: u32) -> Option<Refusal> {
-        match number {
-            1 => Some(Refusal::Length),
-            2 => Some(Refusal::Blank),
-            3 => Some(Refusal::Turn),
-            4 => Some(Refusal::Pivot),
-            5 => Some(Refusal::Range),
-            6 => Some(Refusal::Sheet),
-            _ => None,
-        }
-    }
-
-    pub fn number(self) -> u32 {
-        self as u32
-    }
-}
-
-impl fmt::Display for Refusal {
-    fn fmt(&self, f: &mut fmt::Formatter) -> fmt::Result {
-        let word = match self {
-            Refusal::Length => "length",
-            Refusal::Blank => "blank",
-            Refusal::Turn => "turn",
-            Refusal::Pivot => "pivot",
-            Refusal::Range => "range",
-            Refusal::Sheet => "sheet",
-        };
-        write!(f, "refused {}: {word}", self.number())
-    }
-}
-
-impl std::error::Error for Refusal {}
-
-/// The result of a code: 0, or the number of a refusal.
-fn checked(code: u32) -> Result<(), Refusal> {
-    match code {
-        0 => Ok(()),
-        n => Err(Refusal::of_number(n).expect("the library answers no other code")),
-    }
-}
-
-/// A filter. Any numbers may stand in it: a call refuses those that are not finite.
-#[derive(Clone, Debug, PartialEq)]
-pub struct Filter(pub [f64; FILTER_LENGTH]);
-
-impl Filter {
-    /// From 477 numbers: state 33, covariance 441, gravity 3; alpha 0.5. The original's `new`.
-    pub fn start(numbers: &[f64]) -> Result<Filter, Refusal> {
-        let mut filter = Filter([0.0; FILTER_LENGTH]);
-        checked(exported::start(&mut filter.0, numbers))?;
-        Ok(filter)
-    }
-
-    /// 25 numbers: omega 3, accel 3, dt, densities 18.
-    pub fn propagate(&mut self, numbers: &[f64]) -> Result<(), Refusal> {
-        checked(exported::propagate(&mut self.0, numbers))
-    }
-
-    /// 12 numbers: antenna 3, noise 9. Gives the normalised innovation squared, as each update does.
-    pub fn update_position(&mut self, numbers: &[f64]) -> Result<f64, Refusal> {
-        self.updated(exported::update_position, numbers)
-    }
-
-    /// 15 numbers: antenna 3, omega 3, noise 9.
-    pub fn update_velocity(&mut self, numbers: &[f64]) -> Result<f64, Refusal> {
-        self.updated(exported::update_velocity, numbers)
-    }
-
-    /// 15 numbers: measured 3, north 3, noise 9.
-    pub fn update_direction(&mut self, numbers: &[f64]) -> Result<f64, Refusal> {
-        self.updated(exported::update_direction, numbers)
-    }
-
-    /// 75 numbers: output matrix 63, innovation 3, noise 9.
-    pub fn update(&mut self, numbers: &[f64]) -> Result<f64, Refusal> {
-        self.updated(exported::update, numbers)
-    }
-
-    /// An update by an exported function.
-    fn updated(
-        &mut self,
-        by: fn(&mut [f64], &[f64], &mut [f64]) -> u32,
-        numbers: &[f64],
-    ) -> Result<f64, Refusal> {
-        let mut nis = [0.0];
-        checked(by(&mut self.0, numbers, &mut nis))?;
-        Ok(nis[0])
-    }
-
-    /// The estimate.
-    pub fn nav_state(&self) -> Result<[f64; STATE_LENGTH], Refusal> {
-        let mut state = [0.0; STATE_LENGTH];
-        checked(exported::nav_state(&self.0, &mut state))?;
-        Ok(state)
-    }
-}
-
-/// Runs the bytes of a call sheet and gives its text: a line for each call, or `refused 6` for a broken sheet.
-pub fn run_sheet(sheet: &[u8]) -> String {
-    let mut text = vec![0; TEXT_LENGTH];
-    let mut length = [0];
-    checked(exported::run_sheet(sheet, &mut text, &mut length))
-        .expect("both runs have their lengths");
-    text.truncate(length[0]);
-    String::from_utf8(text).expect("a sheet's text is ASCII")
-}
-
-/// Sine and cosine of an angle from 0 to 8; for any other both are not a number.
-pub fn sin_cos(theta: f64) -> (f64, f64) {
-    let mut both = [0.0; 2];
-    checked(exported::sin_cos(theta, &mut both)).expect("the run has its length");
-    (both[0], both[1])
-}
-
-/// The square root, rounded to nearest.
-pub fn sqrt(x: f64) -> f64 {
-    exported::sqrt(x)
-}

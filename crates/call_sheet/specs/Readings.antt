@@ -61,7 +61,7 @@ refusedSix = 114 ∷ 101 ∷ 102 ∷ 117 ∷ 115 ∷ 101 ∷ 100 ∷ 32 ∷ 54 �
 -- the table
 unfoldable pub readings : List Reading
 readings =
-    -- the three lines of document 01's whole case, by their answers: NIS 0, NIS 1, refused 4
+    -- the three lines of the manual's whole case, by their answers: NIS 0, NIS 1, refused 4
     reads (lineText 1 Position (Nis (ofBits binary64 0)))
     (49 ∷ 32 ∷ 50 ∷ 32 ∷ (replicate 16 48 ++ (10 ∷ [])))
     ∷ reads (lineText 2 Position (Nis (ofBits binary64 0x3ff0_0000_0000_0000)))

@@ -1,4 +1,4 @@
--- The call sheet of document 01: its layout, and the runs that it is read into. Definitions and statements only.
+-- The call sheet: its layout (docs/MANUAL.md has it in words), and the runs that it is read into. Definitions and statements only.
 use Prim.Native.Nat.{ℕ, zero, suc, _+_, _-_, _*_, _≤_}
 use mathlib.Core.Path.{_≡_}
 use mathlib.Core.Bool.{Bool, true, false, _&&_, cond}

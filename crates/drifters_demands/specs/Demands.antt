@@ -68,7 +68,7 @@ laterChecks (measurement w m noise alpha) f =
     ∷ []
 laterChecks estimate f = unless rangeRefusal (allFinite (stateToRun (navState f))) ∷ []
 
--- the checks of a call, in document 01's order
+-- the checks of a call, in the manual's order (docs/MANUAL.md, 'Refusals')
 abbrev pub checks : Kind → List Float → List Float → List Float → List Check
 checks kind run v written =
     unless lengthRefusal (lengthsFit (formOf kind) run v (length written))

@@ -1,4 +1,4 @@
--- What a reader must believe above the code: the half turn, the three demands, and document 01's starred readings.
+-- What a reader must believe above the code: the half turn, the three demands, and the starred readings.
 pub mod Like
 pub mod Turn
 pub mod Demands

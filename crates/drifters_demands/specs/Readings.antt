@@ -1,4 +1,4 @@
--- The starred readings of document 01: one table, and one theorem. The proof is in proofs/Readings.antt. Definitions and statements only.
+-- The starred readings, of the definitions at known numbers: one table, and one theorem. The proof is in proofs/Readings.antt. Definitions and statements only.
 use Prim.Native.Nat.{ℕ}
 use mathlib.Core.Bool.{false}
 use mathlib.Core.List.{List, [], _∷_, map}
@@ -82,7 +82,7 @@ readings u v w =
     ∷ numbersAre (symmetrize 2 (zero ∷ one ∷ three ∷ zero ∷ [])) (zero ∷ two ∷ two ∷ zero ∷ [])
     -- square root of 4, sine and cosine of 0
     ∷ numbersAre (sqrt four ∷ sin zero ∷ cos zero ∷ []) (two ∷ zero ∷ one ∷ [])
-    -- beside document 01's: the signs of the three half turns, and a number past the end of a call, which does not turn
+    -- beside the starred ones: the signs of the three half turns, and a number past the end of a call, which does not turn
     ∷ signsAre aboutX one minusOne minusOne
     ∷ signsAre aboutY minusOne one minusOne
     ∷ signsAre aboutZ minusOne minusOne one

@@ -54,7 +54,7 @@ stateSigns s = thenSigns 9 (rowSigns s) (thenSigns 6 (axis s) plain)
 
 -- ---- reading through a half turn
 
--- document 01's half turn of a run: each number with its sign
+-- the half turn of a run (docs/MANUAL.md): each number with its sign
 unfoldable pub turned : (ℕ → Bool) → List Float → List Float
 turned σ v = tab (length v) (λ i. signed (σ i) (getD v i nan))
 

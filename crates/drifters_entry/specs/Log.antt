@@ -19,7 +19,7 @@ pub record LogEntry : Type 0 where
   pub written : List Float
   pub left : List Float
 
--- document 01's log: the first filter, and what was called
+-- a log (docs/MANUAL.md): the first filter, and what was called
 pub record Log : Type 0 where
   pub first : List Float
   pub entries : List LogEntry

@@ -1,4 +1,4 @@
--- The answers of document 01: the numbers of refusals, and what each case of the answer stands for. Definitions only.
+-- The answers: the numbers of refusals (docs/MANUAL.md), and what each case of the answer stands for. Definitions only.
 use mathlib.Core.List.{List, [], _∷_}
 use Prim.Native.Nat.{ℕ}
 use lib.Ieee.{Float}

@@ -29,7 +29,7 @@ use Rattle.drifters_eqf.specs.declared.filter.Measurement3.{Measurement3
 abbrev pub turnLimit : Float
 turnLimit = ofBits binary64 0x4020_0000_0000_0000
 
--- the norms of both rotation vectors of u are numbers at most that; document 01's 'turn' is that they are not
+-- the norms of both rotation vectors of u are numbers at most that; refusal 'turn' (docs/MANUAL.md) is that they are not
 unfoldable pub turnFits : Algebra → Bool
 turnFits u = le (norm (u .c .omega)) turnLimit && le (norm (u .e)) turnLimit
 

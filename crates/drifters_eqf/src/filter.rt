@@ -36,7 +36,7 @@ use drifters_symmetry::linear::transported_position;
 use drifters_symmetry::linear::transported_velocity;
 use drifters_symmetry::linear::velocity_output_matrix;
 
-// The numbers of the refusals: document 01's length, blank, turn, pivot and range.
+// The numbers of the refusals: length, blank, turn, pivot and range (docs/MANUAL.md).
 pub const LENGTH_REFUSAL: u32 = 1;
 
 pub const BLANK_REFUSAL: u32 = 2;

@@ -1,4 +1,4 @@
-// Replays calls whose answers by the original are stored, and prints how many differ; then document 01's readings that have no star.
+// Replays calls whose answers by the original are stored, and prints how many differ; then the readings of lengths and of sheets' texts.
 mod calls;
 mod files;
 mod readings;

@@ -1,4 +1,4 @@
-// Document 01's readings that have no star: the lengths of the runs, and the text of sheets.
+// Readings that are run, not proved: the lengths of the runs, and the text of sheets.
 ghost use mathlib.Core.Path.{_≡_};
 ghost use Prim.Native.Nat.{_+_, _≤_};
 ghost use Rattle.drifters_entry.specs.Kind.{callLength};

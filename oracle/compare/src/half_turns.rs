@@ -1,4 +1,4 @@
-//! Document 01's half turn on the compiled port: a log and the log read through a half turn give answers and filters that are each other's.
+//! The half turn (docs/MANUAL.md) on the compiled port: a log and the log read through a half turn give answers and filters that are each other's.
 use crate::in_threads;
 use crate::lent::Lent;
 use drifters_eqf::linear::DIM;
@@ -69,7 +69,7 @@ fn turned_result(s: &Signs, kind: u32, result: &[f64]) -> Vec<f64> {
     result
 }
 
-/// Equal as document 01 has it: both zeros are one, and so is what is not a number.
+/// Equal as the manual has it: both zeros are one, and so is what is not a number.
 fn equal(x: &[f64], y: &[f64]) -> bool {
     x.len() == y.len() && x.iter().zip(y).all(|(x, y)| x == y || x.is_nan() && y.is_nan())
 }

@@ -29,7 +29,7 @@ impl Lent {
         }
     }
 
-    /// Makes the call on the original. The run of a NIS is the port's own; document 01 has its refusal for every lent run.
+    /// Makes the call on the original. The run of a NIS is the port's own; refusal 1 is for every lent run.
     pub fn on_original(&mut self, kind: u32) -> u32 {
         let update = (2..=5).contains(&kind);
         if update && self.result.len() != result_length(kind) {

@@ -1,4 +1,4 @@
-//! Call sheets in document 01's layout.
+//! Call sheets in the layout of docs/MANUAL.md.
 
 /// The bytes of a sheet: a filter, and calls with their kinds.
 pub fn sheet(filter: &[f64], calls: &[(u32, Vec<f64>)]) -> Vec<u8> {

@@ -1,4 +1,4 @@
-//! One call on the original's filter: as the original makes it, and with document 01's checks in their order.
+//! One call on the original's filter: as the original makes it, and with the manual's checks (docs/MANUAL.md) in their order.
 use crate::places::{GENERAL, PROPAGATION, STATE};
 use crate::runs::{all_finite, run_of, state_numbers, Reader};
 use crate::Answer;
@@ -47,7 +47,7 @@ pub enum Call {
 }
 
 impl Call {
-    /// A call of a kind, its numbers in document 01's order.
+    /// A call of a kind, its numbers in the manual's order.
     pub fn read(kind: u32, numbers: &[f64]) -> Self {
         let mut v = Reader::new(numbers);
         match kind {

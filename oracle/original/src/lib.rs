@@ -1,4 +1,4 @@
-//! The original's calls on runs of numbers, with document 01's checks around them.
+//! The original's calls on runs of numbers, with the checks of docs/MANUAL.md around them.
 //!
 //! The original has one refusal, its None (4). The others are found here: the lengths and the numbers that are not finite before the call (1, 2),
 //! the turn (3) on the algebra elements that the original hands to `Symmetry::exp`, computed again by its own public functions, and results
@@ -21,7 +21,7 @@ pub enum Answer {
     Nis(f64),
     /// An accepted propagation, state call or start.
     Fine,
-    /// A refusal, by document 01's number.
+    /// A refusal, by its number.
     Refused(u32),
 }
 

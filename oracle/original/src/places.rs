@@ -1,4 +1,4 @@
-//! Document 01's places and lengths: where each part of a run begins, and how many numbers a run has.
+//! The places and lengths of docs/MANUAL.md: where each part of a run begins, and how many numbers a run has.
 use drifters_eqf::linear::DIM;
 
 /// The numbers of a vector and of a 3 by 3 matrix.

@@ -1,4 +1,4 @@
-//! Runs of numbers as the original's values, and back, at document 01's places.
+//! Runs of numbers as the original's values, and back, at the places of docs/MANUAL.md.
 use crate::places::{FILTER, STATE};
 use drifters_core::math::{Matrix, Vec3};
 use drifters_eqf::filter::EqFilter;

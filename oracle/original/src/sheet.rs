@@ -1,4 +1,4 @@
-//! Call sheets: an independent reader of document 01's layout, and the printer of its answers.
+//! Call sheets: an independent reader of the layout in docs/MANUAL.md, and the printer of its answers.
 use crate::calls::{call_length, checked, written_length, Call};
 use crate::places::FILTER;
 use crate::runs::filter_of;
@@ -74,7 +74,7 @@ fn text_of(bytes: &[u8], mut make: impl FnMut(&mut EqFilter, &Entry) -> Answer) 
     text
 }
 
-/// The text that document 01 gives for the bytes of a sheet.
+/// The text that the manual gives for the bytes of a sheet.
 pub fn run_sheet(bytes: &[u8]) -> String {
     text_of(bytes, |filter, entry| {
         let mut written = vec![0.0; written_length(entry.kind)];
