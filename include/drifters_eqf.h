@@ -15,7 +15,7 @@
  *
  * MACHINE. The functions keep nothing between calls and take no heap: threads may call them at once on runs of their
  * own. They call memcpy and memset only. The floating-point mode must be the usual one: round to nearest, no flush to
- * zero, exceptions masked. Stack, measured and not proved: about 50 kB for a call on a filter, 125 kB for a sheet.
+ * zero, exceptions masked. Stack, measured and not proved: about 70 kB for a call on a filter, 145 kB for a sheet.
  *
  * FRAMES. Reference: fixed to the ground, such as north-east-down. Body: the inertial sensor's. Compass: the
  * magnetometer's. Attitude R rotates a body vector into the reference frame, mag S a compass vector into the body
@@ -32,9 +32,9 @@
 #include <stdint.h>
 
 #define DRIFTERS_VERSION_MAJOR 0
-#define DRIFTERS_VERSION_MINOR 2
+#define DRIFTERS_VERSION_MINOR 3
 #define DRIFTERS_VERSION_PATCH 0
-#define DRIFTERS_VERSION "0.2.0"
+#define DRIFTERS_VERSION "0.3.0"
 
 /* Codes; drifters_code_meaning, below, says what each means. */
 #define DRIFTERS_OK 0u
@@ -92,7 +92,7 @@ DRIFTERS_INLINE const char *drifters_code_meaning(uint32_t code)
 #undef DRIFTERS_INLINE
 
 /* The 21 coordinates of the error, where the truth is exp(error) * estimate: rows and columns of sigma, columns of an
- * output matrix. To first order, with d(v) = v_true - v and so on, d(theta) and d(s) as rotation vectors
+ * output matrix or row. To first order, with d(v) = v_true - v and so on, d(theta) and d(s) as rotation vectors
  * (R_true = (I + d(theta)^) R, S_true = (I + d(s)^) S): */
 #define DRIFTERS_COORDINATE_ATTITUDE 0                                     /* 0: d(theta) */
 #define DRIFTERS_COORDINATE_VELOCITY (DRIFTERS_COORDINATE_ATTITUDE + 3)    /* 3: d(v) + v x d(theta) */
@@ -169,6 +169,12 @@ DRIFTERS_INLINE const char *drifters_code_meaning(uint32_t code)
 #define DRIFTERS_UPDATE_NOISE (DRIFTERS_UPDATE_INNOVATION + 3)                    /* 66 */
 #define DRIFTERS_UPDATE_LENGTH (DRIFTERS_UPDATE_NOISE + 9)                        /* 75 */
 
+/* Scalar update, by one measured number: output as above, one row of it; innovation and variance are one number each. */
+#define DRIFTERS_SCALAR_OUTPUT 0                                              /* 0: 1 x 21 */
+#define DRIFTERS_SCALAR_INNOVATION (DRIFTERS_SCALAR_OUTPUT + DRIFTERS_STATES) /* 21: predicted MINUS measured */
+#define DRIFTERS_SCALAR_VARIANCE (DRIFTERS_SCALAR_INNOVATION + 1)             /* 22 */
+#define DRIFTERS_SCALAR_LENGTH (DRIFTERS_SCALAR_VARIANCE + 1)                 /* 23 */
+
 /* Results. */
 #define DRIFTERS_NIS_LENGTH 1
 #define DRIFTERS_SIN_COS_LENGTH 2
@@ -184,6 +190,7 @@ DRIFTERS_INLINE const char *drifters_code_meaning(uint32_t code)
 #define DRIFTERS_KIND_DIRECTION 4
 #define DRIFTERS_KIND_GENERAL 5
 #define DRIFTERS_KIND_STATE 6
+#define DRIFTERS_KIND_SCALAR 7
 #define DRIFTERS_SHEET_ENTRIES 256
 #define DRIFTERS_SHEET_BYTES 65536
 #define DRIFTERS_TEXT_LENGTH ((DRIFTERS_SHEET_ENTRIES - 1) * 23) /* 5865 */
@@ -203,10 +210,10 @@ uint32_t drifters_start(double *filter, size_t filter_length, const double *numb
 uint32_t drifters_propagate(double *filter, size_t filter_length, const double *numbers, size_t numbers_length);
 
 /* The updates. An accepted one writes the new filter, and its normalised innovation squared (NIS) to nis, a run of one
- * number. Where the filter is consistent, the NIS is about 3 on average; for a direction about 2. The filter's alpha,
- * clamped to 0..1 by the call, says how a surprising measurement is taken: at 0 nearly at full weight, at 1 least. The
- * original's None is code 4. Codes: 1 (nis not 1, filter not 478, numbers not as stated), 2, 4, 3, 5, tested in this
- * order. */
+ * number. Where the filter is consistent, the NIS is about 3 on average; for a direction about 2, for a scalar update
+ * about 1. The filter's alpha, clamped to 0..1 by the call, says how a surprising measurement is taken: at 0 nearly at
+ * full weight, at 1 least. The original's None is code 4. Codes: 1 (nis not 1, filter not 478, numbers not as stated),
+ * 2, 4, 3, 5, tested in this order. */
 
 /* By a GNSS antenna position; numbers: 12. */
 uint32_t drifters_update_position(double *filter, size_t filter_length, const double *numbers, size_t numbers_length,
@@ -223,6 +230,10 @@ uint32_t drifters_update_direction(double *filter, size_t filter_length, const d
 /* By any output matrix and innovation, which is predicted minus measured; numbers: 75. */
 uint32_t drifters_update(double *filter, size_t filter_length, const double *numbers, size_t numbers_length,
                          double *nis, size_t nis_length);
+
+/* By one measured number, such as the height of a pressure gauge; numbers: 23. */
+uint32_t drifters_update_scalar(double *filter, size_t filter_length, const double *numbers, size_t numbers_length,
+                                double *nis, size_t nis_length);
 
 /* Writes the estimate to state, 33 numbers. Codes: 1 (filter not 478, state not 33), 2, 5. */
 uint32_t drifters_nav_state(const double *filter, size_t filter_length, double *state, size_t state_length);

@@ -93,8 +93,13 @@ class Manual(unittest.TestCase):
         return places
 
     def test_places(self):
-        for kind, (title, length) in enumerate([("A filter", 478), ("Propagate", 25), ("Position", 12), ("Velocity", 15), ("Direction", 15), ("General", 75)]):
-            parts = sheet.KINDS[kind][1]
+        tables = {"filter": ("A filter", 478), "propagate": ("Propagate", 25), "position": ("Position", 12), "velocity": ("Velocity", 15),
+                  "direction": ("Direction", 15), "general": ("General", 75), "scalar": ("Scalar", 23)}
+        self.assertEqual([name for name, parts in sheet.KINDS if parts], list(tables))
+        for kind, (name, parts) in enumerate(sheet.KINDS):
+            if not parts:
+                continue
+            title, length = tables[name]
             self.assertEqual(self.table(title), self.expected(parts))
             self.assertRegex(self.manual, rf"\*\*{title}, (kind {kind}, )?{length} numbers\.\*\*")
             self.assertEqual(length, self.expected(parts)[-1][2])
@@ -121,7 +126,7 @@ class Manual(unittest.TestCase):
             self.assertEqual(moves, [round(move, 3) for move in expected])
 
     def test_the_limits_of_a_mean_nis(self):
-        """99 of 100 means of n lie between them: n times the mean is a chi-squared number of n times 3 or 2 degrees of freedom."""
+        """99 of 100 means of n lie between them: n times the mean is a chi-squared number of n times 3, 2 or 1 degrees of freedom."""
         def below(x, degrees):
             term = total = 1 / (degrees / 2)
             for i in range(1, 2000):
@@ -129,10 +134,10 @@ class Manual(unittest.TestCase):
                 total += term
             return total * math.exp(-x / 2 + degrees / 2 * math.log(x / 2) - math.lgamma(degrees / 2))
 
-        rows = re.findall(r"^\| (\d+) \| from ([\d.]+) to ([\d.]+) \| from ([\d.]+) to ([\d.]+) \|$", self.manual, re.M)
+        rows = re.findall(r"^\| (\d+) \|" + r" from ([\d.]+) to ([\d.]+) \|" * 3 + "$", self.manual, re.M)
         self.assertEqual([row[0] for row in rows], ["10", "20", "50", "100"])
         for n, *limits in ([int(row[0]), *map(float, row[1:])] for row in rows):
-            for limit, axes, part in zip(limits, (3, 3, 2, 2), (0.005, 0.995) * 2):
+            for limit, axes, part in zip(limits, (3, 3, 2, 2, 1, 1), (0.005, 0.995) * 3):
                 self.assertLess(below(n * (limit - 0.006), n * axes), part)
                 self.assertGreater(below(n * (limit + 0.006), n * axes), part)
 
@@ -147,7 +152,7 @@ class Manual(unittest.TestCase):
             return
         programs = re.findall(r"^```c\n(.*?)^```\n\nIt prints\n\n```text\n(.*?)^```$", self.manual, re.M | re.S)
         self.assertEqual(len(programs), sum(language == "c" for language, _ in blocks(self.manual)))
-        self.assertEqual(len(programs), 2)
+        self.assertEqual(len(programs), 3)
         for program, printed in programs:
             self.assertEqual(self.printed(program), printed)
 
@@ -202,6 +207,14 @@ class Manual(unittest.TestCase):
         self.assertEqual([answers[0], answers[3]], ["ok", "ok"])
         for bits, (_, printed) in zip(answers[1:3], nis):
             self.assertEqual(f"{sheet.number(int(bits, 16)):.4f}", printed)
+
+    def test_the_line_of_a_scalar_update(self):
+        """The manual's line for a sheet has the numbers of its program in C: the row of p = (400, -300, -1500), and a height of 1503."""
+        line, = re.findall(r"`(scalar [^`]+)`", self.manual)
+        kind, bits = sheet.entry(line)
+        self.assertEqual(sheet.KINDS[kind][0], "scalar")
+        self.assertEqual([sheet.number(x) for x in bits], [300, 400, *[0] * 6, -1, *[0] * 12, 3, 1])
+        self.assertIn("position[3] = {400, -300, -1500}, height = 1503, variance = 1;", self.manual)
 
 
 class Readme(unittest.TestCase):

@@ -16,7 +16,7 @@ import unittest
 from repository import ROOT, TOOL, sheet
 
 # docs/MANUAL.md: how many numbers each kind has, and where each part begins.
-SIZES = [478, 25, 12, 15, 15, 75, 0]
+SIZES = [478, 25, 12, 15, 15, 75, 0, 23]
 PLACES = [
     ("filter", [("A", 0), ("velocity", 9), ("position", 12), ("gamma", 15), ("delta", 21), ("E", 24), ("sigma", 33),
                 ("gravity", 474), ("alpha", 477)]),
@@ -27,6 +27,7 @@ PLACES = [
     ("direction", [("measured", 0), ("north", 3), ("noise", 6)]),
     ("general", [("output", 0), ("innovation", 63), ("noise", 66)]),
     ("state", []),
+    ("scalar", [("output", 0), ("innovation", 21), ("variance", 22)]),
 ]
 
 # States, and the bits of gamma, delta and E that the library's drifters_start gave for them. The last has zeros of both
@@ -58,6 +59,7 @@ STARTS = [
 REST = "A=identity velocity=zero position=zero gamma=zero delta=zero E=identity gravity=zero"
 FILTER = f"filter {REST} sigma=zero alpha=0.5"
 GENERAL = "general output=zero innovation=zero noise=zero"
+SCALAR = "scalar output=zero innovation=0.5 variance=0.25"
 PROPAGATE = ("propagate omega=zero accel=zero dt=zero density.gyro=zero density.accel=zero density.gyro_bias=zero "
              "density.accel_bias=zero density.lever=zero density.mag=zero")
 
@@ -172,8 +174,8 @@ class Build(Case):
         self.bad(f"line 2: {first}", "", "state")
         self.bad(f"line 2: {first}", FILTER, FILTER)
         self.bad(f"line 2: {first}", FILTER, f"start {AT_REST} sigma=1 gravity=zero")
-        self.bad("line 2: 'update' is none of start, filter, propagate, position, velocity, direction, general, state",
-                 FILTER, "update")
+        self.bad("line 2: 'update' is none of start, filter, propagate, position, velocity, direction, general, state, "
+                 "scalar", FILTER, "update")
         self.bad("line 257: more than 256 entries", FILTER, *["state"] * 256)
         self.bad("line 103: more than 65536 bytes of a sheet", FILTER, *[GENERAL] * 105)
         self.told("line 2: not text in UTF-8", sheet.parse, FILTER.encode() + b"\n\xff\n")
@@ -207,6 +209,9 @@ class Build(Case):
         self.bad_part("antenna: numbers wanted 3, given 1", "antenna=1")
         self.bad_part("noise: numbers wanted 9 or 1, given 2", "noise=0,1")
         self.bad_part("diagonal of noise: numbers wanted 3, given 1", "noise=diagonal:1")
+        for part in ("innovation", "variance"):
+            self.bad(f"line 1: {part}: numbers wanted 1, given 2", SCALAR.replace(f"{part}=", f"{part}=0,"))
+        self.bad("line 1: output: numbers wanted 21, given 1", SCALAR.replace("output=zero", "output=1"))
         self.bad_part("antenna is not square", "antenna=identity")
         self.bad_part("antenna is not square", "antenna=diagonal:1,1,1")
         self.bad_part("only the sigma of a start may be by deviations", "noise=deviations:1,1,1")
@@ -421,6 +426,16 @@ expected: about, where the filter is consistent; general: 3 where it measures th
         self.assertEqual(lines[-2:], ["1      velocity          antenna 0.5 0.25 -0.1; omega 0.4 0 0.9;",
                                       " " * 25 + "noise 0.0123456 0 0 0 0.0123456 0 0 0 0.0123456"])
 
+    def test_a_scalar_update(self):
+        output = ",".join(map(str, range(21)))
+        line = f"scalar output={output} innovation=-0.5 variance=0.25"
+        self.assertEqual(self.shown([FILTER, line], ["3FF0000000000000"])[-7:-4], [
+            "entry  call    answer  numbers",
+            "1      scalar  NIS 1   output 0 1 2 3 4 5 6 7 8 9 10 11 12 13 14 15 16 17 18 19 20; innovation -0.5;",
+            " " * 23 + "variance 0.25"])
+        self.told("line 1: '1 7 ok' is no answer of entry 1, scalar, of kind 7", sheet.answers_of, b"1 7 ok\n",
+                  parsed(FILTER, line))
+
     def test_densities_of_zero_are_left_out(self):
         line = PROPAGATE.replace("density.accel=zero", "density.accel=0,0,2")
         self.assertEqual(self.shown([FILTER, line])[-1],
@@ -432,14 +447,15 @@ expected: about, where the filter is consistent; general: 3 where it measures th
                  ("position antenna=zero noise=1", "refused 2"),
                  ("velocity antenna=zero omega=zero noise=1", "refused 4"),
                  ("direction measured=zero north=zero noise=1", one), (GENERAL, "7FEFFFFFFFFFFFFF"),
-                 (GENERAL, "7FEFFFFFFFFFFFFF"), ("state", "refused 5")]
+                 (GENERAL, "7FEFFFFFFFFFFFFF"), ("state", "refused 5"), (SCALAR, one), (SCALAR, "refused 3")]
         lines = self.shown([FILTER, *(line for line, _ in calls)], [answer for _, answer in calls])
-        self.assertEqual(lines[-6:], [
+        self.assertEqual(lines[-7:], [
             "update     accepted  refused  mean NIS      expected",
             "position   2         1        2             3",
             "velocity   0         1        -             3",
             "direction  1         0        1             2",
             "general    2         0        1.79769e+308  3",
+            "scalar     1         1        1             1",
             "expected: about, where the filter is consistent; general: 3 where it measures three numbers"])
 
     def test_no_summary_without_updates(self):
@@ -470,7 +486,7 @@ expected: about, where the filter is consistent; general: 3 where it measures th
             (bytes(4) + good[4:], "0 entries in 4148 bytes"),
             (b"\1\1" + good[2:], "257 entries in 4148 bytes"),
             (b"\2" + good[1:16], "2 entries in 16 bytes"),
-            (good[:12] + b"\7" + good[13:], "entry 1 has kind 7"),
+            (good[:12] + b"\10" + good[13:], "entry 1 has kind 8"),
             (good[:12] + b"\0" + good[13:], "entry 1 has kind 0"),
             (good[:4] + b"\1" + good[5:], "entry 0 has kind 1"),
             (good[:16] + b"\x15" + good[17:], "entry 1 is at 3861 in place of 3860"),
@@ -519,7 +535,7 @@ class Program(Case):
             lines = out.decode().splitlines()
             self.assertTrue(out.decode().startswith(self.USAGE.format("sheet") + "\n"))
             self.assertIn("  velocity   antenna 3, omega 3, noise 9", lines)
-            self.assertEqual(lines[-1], "  state      none")
+            self.assertEqual(lines[-2:], ["  state      none", "  scalar     output 21, innovation 1, variance 1"])
             self.assertLessEqual(max(map(len, lines)), 100)
 
     def test_wrong_use(self):

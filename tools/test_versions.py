@@ -11,7 +11,7 @@ from repository import ROOT, content, sheet
 
 HEADER = "include/drifters_eqf.h"
 # The runs whose places have names. The kind `general` is named by its function, update.
-RUNS = ["FILTER", "STATE", "START", "PROPAGATE", "POSITION", "VELOCITY", "DIRECTION", "UPDATE"]
+RUNS = ["FILTER", "STATE", "START", "PROPAGATE", "POSITION", "VELOCITY", "DIRECTION", "UPDATE", "SCALAR"]
 
 
 def evaluated(expression, value_of):
@@ -202,7 +202,7 @@ class Declarations(unittest.TestCase):
 
         expected = [text for text in declarations(content(HEADER)) if "sin_cos" not in text]
         self.assertEqual(declarations(content("docs/MANUAL.md")), expected)
-        self.assertEqual(len(expected), 8)
+        self.assertEqual(len(expected), 9)
 
 
 class Refusals(unittest.TestCase):

@@ -165,6 +165,27 @@ static void update(double *filter)
     print_update("update", code, nis);
 }
 
+/* The height of the sensor, as a pressure gauge has it: the third row of the update above, with the m that is predicted,
+ * since north and east are not measured. */
+static void update_scalar(double *filter)
+{
+    static const double height = 0.0625;
+    const double *predicted = filter + DRIFTERS_FILTER_POSITION;
+    double numbers[DRIFTERS_SCALAR_LENGTH] = {0};
+    double *row = numbers + DRIFTERS_SCALAR_OUTPUT;
+    double nis = 0.0;
+    uint32_t code;
+
+    row[DRIFTERS_COORDINATE_ATTITUDE] = -predicted[1];
+    row[DRIFTERS_COORDINATE_ATTITUDE + 1] = predicted[0];
+    row[DRIFTERS_COORDINATE_POSITION + 2] = -1.0;
+    numbers[DRIFTERS_SCALAR_INNOVATION] = predicted[2] - -height;
+    numbers[DRIFTERS_SCALAR_VARIANCE] = 0.25;
+    code = drifters_update_scalar(filter, DRIFTERS_FILTER_LENGTH, numbers, DRIFTERS_SCALAR_LENGTH,
+                                  &nis, DRIFTERS_NIS_LENGTH);
+    print_update("update_scalar", code, nis);
+}
+
 /* A variance below 0: no such matrix has a Cholesky factor. The refused update changes nothing. */
 static void refused_update(double *filter)
 {
@@ -253,6 +274,7 @@ int main(void)
     update_velocity(filter);
     update_direction(filter);
     update(filter);
+    update_scalar(filter);
     refused_update(filter);
     print_state(filter);
     run_sheet();

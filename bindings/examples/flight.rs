@@ -5,7 +5,7 @@ use std::process::ExitCode;
 
 use drifters_port::places::coordinate;
 use drifters_port::{diagonal, kind, run_sheet_into};
-use drifters_port::{Densities, Deviations, Direction, Filter, Fix, General, Imu, Start};
+use drifters_port::{Densities, Deviations, Direction, Filter, Fix, General, Imu, Scalar, Start};
 use drifters_port::{
     Refusal, State, VelocityFix, FILTER_LENGTH, POSITION_LENGTH, STATES, TEXT_LENGTH,
 };
@@ -119,6 +119,23 @@ fn update(filter: &mut Filter) {
     print_update("update", filter.update(&seen.numbers()));
 }
 
+/// The height of the sensor, as a pressure gauge has it: the third row of the update above, with the m that is
+/// predicted, since north and east are not measured.
+fn update_scalar(filter: &mut Filter) {
+    let height = 0.0625;
+    let predicted = filter.position();
+    let mut output = [0.0; STATES];
+    output[coordinate::ATTITUDE] = -predicted[1];
+    output[coordinate::ATTITUDE + 1] = predicted[0];
+    output[coordinate::POSITION + 2] = -1.0;
+    let seen = Scalar {
+        output,
+        innovation: predicted[2] - -height,
+        variance: 0.25,
+    };
+    print_update("update_scalar", filter.update_scalar(&seen.numbers()));
+}
+
 /// A variance below 0: no such matrix has a Cholesky factor. The refused update changes nothing.
 fn refused_update(filter: &mut Filter) {
     let before = filter.clone();
@@ -199,6 +216,7 @@ fn flight() -> Result<(), Refusal> {
     update_velocity(&mut filter);
     update_direction(&mut filter);
     update(&mut filter);
+    update_scalar(&mut filter);
     refused_update(&mut filter);
     print_state(&filter)?;
     run_sheet()

@@ -48,6 +48,14 @@ mod c {
             nis: *mut f64,
             nis_length: usize,
         ) -> u32;
+        pub fn drifters_update_scalar(
+            filter: *mut f64,
+            filter_length: usize,
+            numbers: *const f64,
+            numbers_length: usize,
+            nis: *mut f64,
+            nis_length: usize,
+        ) -> u32;
         pub fn drifters_nav_state(
             filter: *const f64,
             filter_length: usize,
@@ -121,6 +129,10 @@ pub fn update_direction(filter: &mut [f64], numbers: &[f64], nis: &mut [f64]) ->
 
 pub fn update(filter: &mut [f64], numbers: &[f64], nis: &mut [f64]) -> u32 {
     lend(c::drifters_update, filter, numbers, nis)
+}
+
+pub fn update_scalar(filter: &mut [f64], numbers: &[f64], nis: &mut [f64]) -> u32 {
+    lend(c::drifters_update_scalar, filter, numbers, nis)
 }
 
 pub fn nav_state(filter: &[f64], state: &mut [f64]) -> u32 {

@@ -5,7 +5,7 @@ use crate::refusal::checked;
 use crate::runs::{matrix, vector};
 use crate::{
     Refusal, State, DIRECTION_LENGTH, FILTER_LENGTH, POSITION_LENGTH, PROPAGATE_LENGTH,
-    START_LENGTH, STATES, STATE_LENGTH, UPDATE_LENGTH, VELOCITY_LENGTH,
+    SCALAR_LENGTH, START_LENGTH, STATES, STATE_LENGTH, UPDATE_LENGTH, VELOCITY_LENGTH,
 };
 
 /// A filter: its 478 numbers, as [`places::filter`](crate::places::filter) has them.
@@ -32,7 +32,8 @@ use crate::{
 /// The slice form of a call takes any length, and refuses a wrong one by [`Refusal::Length`].
 ///
 /// An update gives its normalised innovation squared (NIS). Where the filter is consistent it is about 3 on average
-/// for a position, a velocity and a general update that measures three numbers, and about 2 for a direction.
+/// for a position, a velocity and a general update that measures three numbers, about 2 for a direction, and about 1
+/// for an update by one number.
 #[derive(Clone, Debug, PartialEq)]
 pub struct Filter(pub [f64; FILTER_LENGTH]);
 
@@ -173,6 +174,33 @@ impl Filter {
     /// [`update`](Filter::update) by a slice of 75 numbers.
     pub fn update_slice(&mut self, numbers: &[f64]) -> Result<f64, Refusal> {
         self.updated(exported::update, numbers)
+    }
+
+    /// Updates the filter by one measured number: [`Scalar`](crate::Scalar). Gives the NIS.
+    ///
+    /// ```
+    /// use drifters_port::places::coordinate;
+    /// use drifters_port::{diagonal, Filter, Scalar, Start, State};
+    ///
+    /// let start = Start { state: State::default(), sigma: diagonal([0.01; 21]), gravity: [0.0, 0.0, 9.81] };
+    /// let mut filter = Filter::start(&start.numbers())?;
+    /// // the height, at the origin: predicted down 0, measured 0.1 m above, which is down -0.1
+    /// let mut output = [0.0; 21];
+    /// output[coordinate::POSITION + 2] = -1.0;
+    /// let gauge = Scalar { output, innovation: 0.0 - -0.1, variance: 0.01 };
+    /// filter.update_scalar(&gauge.numbers())?;
+    /// assert!(filter.position()[2] < 0.0);
+    /// # Ok::<(), drifters_port::Refusal>(())
+    /// ```
+    ///
+    /// Away from the origin the row has numbers at the attitude's coordinates too: docs/MANUAL.md has it.
+    pub fn update_scalar(&mut self, numbers: &[f64; SCALAR_LENGTH]) -> Result<f64, Refusal> {
+        self.update_scalar_slice(numbers)
+    }
+
+    /// [`update_scalar`](Filter::update_scalar) by a slice of 23 numbers.
+    pub fn update_scalar_slice(&mut self, numbers: &[f64]) -> Result<f64, Refusal> {
+        self.updated(exported::update_scalar, numbers)
     }
 
     /// The estimate. Biases, lever arm and calibration come from here: the filter's gamma, delta and E are not they.

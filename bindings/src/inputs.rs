@@ -1,9 +1,9 @@
 //! The numbers of each call, by their names.
-use crate::places::{direction, position, propagate, start, update, velocity};
+use crate::places::{direction, position, propagate, scalar, start, update, velocity};
 use crate::runs::put;
 use crate::{
-    State, DIRECTION_LENGTH, POSITION_LENGTH, PROPAGATE_LENGTH, START_LENGTH, STATES,
-    UPDATE_LENGTH, VELOCITY_LENGTH,
+    State, DIRECTION_LENGTH, POSITION_LENGTH, PROPAGATE_LENGTH, SCALAR_LENGTH, START_LENGTH,
+    STATES, UPDATE_LENGTH, VELOCITY_LENGTH,
 };
 
 /// A matrix with these numbers on its diagonal and zero elsewhere.
@@ -189,6 +189,29 @@ impl General {
         put(&mut numbers, update::OUTPUT, self.output.as_flattened());
         put(&mut numbers, update::INNOVATION, &self.innovation);
         put(&mut numbers, update::NOISE, self.noise.as_flattened());
+        numbers
+    }
+}
+
+/// A measurement of one number of your own, such as the height of a pressure gauge.
+/// [`Filter::update_scalar`](crate::Filter::update_scalar) takes its numbers.
+#[derive(Clone, Copy, Debug, PartialEq)]
+pub struct Scalar {
+    /// The derivative of (predicted - measured) in the 21 error coordinates, as a row of [`General::output`].
+    pub output: [f64; STATES],
+    /// Predicted less measured, in the measurement's unit.
+    pub innovation: f64,
+    /// The measurement's variance, in the square of its unit.
+    pub variance: f64,
+}
+
+impl Scalar {
+    /// The 23 numbers, as [`places::scalar`](crate::places::scalar) has them.
+    pub fn numbers(&self) -> [f64; SCALAR_LENGTH] {
+        let mut numbers = [0.0; SCALAR_LENGTH];
+        put(&mut numbers, scalar::OUTPUT, &self.output);
+        numbers[scalar::INNOVATION] = self.innovation;
+        numbers[scalar::VARIANCE] = self.variance;
         numbers
     }
 }

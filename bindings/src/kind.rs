@@ -14,3 +14,5 @@ pub const DIRECTION: u32 = 4;
 pub const GENERAL: u32 = 5;
 /// A state call.
 pub const STATE: u32 = 6;
+/// An update by one measured number.
+pub const SCALAR: u32 = 7;

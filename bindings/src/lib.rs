@@ -4,7 +4,8 @@
 //! was measured.
 //!
 //! ```
-//! use drifters_port::{diagonal, Densities, Deviations, Direction, Filter, Fix, Imu, Start, State, VelocityFix};
+//! use drifters_port::places::coordinate;
+//! use drifters_port::{diagonal, Densities, Deviations, Direction, Filter, Fix, Imu, Scalar, Start, State, VelocityFix};
 //!
 //! // the first estimate, and how far it may be off
 //! let state = State { position: [0.0, 0.0, -3000.0], lever: [0.4, 0.0, -1.2], ..State::default() };
@@ -43,6 +44,14 @@
 //! filter.update_velocity(&fix.numbers())?;
 //! let field = Direction { measured: [0.4, -0.01, 0.9], north: [0.4, 0.0, 0.9], noise: diagonal([4e-4; 3]) };
 //! filter.update_direction(&field.numbers())?;
+//! // the height of a pressure gauge: down is minus height; the manual has the row
+//! let (p, height) = (filter.position(), 2999.9);
+//! let mut output = [0.0; 21];
+//! output[coordinate::ATTITUDE] = -p[1];
+//! output[coordinate::ATTITUDE + 1] = p[0];
+//! output[coordinate::POSITION + 2] = -1.0;
+//! let gauge = Scalar { output, innovation: p[2] - -height, variance: 0.25 };
+//! filter.update_scalar(&gauge.numbers())?;
 //!
 //! // the estimate
 //! let estimate = filter.nav_state()?;
@@ -60,12 +69,13 @@
 //!   sensor to the antenna, in the body frame.
 //! - `omega` and `accel` are the sensor's readings; `accel` is the specific force, (0, 0, -9.81) level and at rest:
 //!   R' = R (omega - gyro_bias)^, v' = R (accel - accel_bias) + gravity, p' = v.
-//! - Measured are p + R t, v + R (omega x t) and S^T R^T north. A general update takes predicted less measured.
+//! - Measured are p + R t, v + R (omega x t) and S^T R^T north. A general update, and one by one number, takes predicted less
+//!   measured.
 //! - Noise is a covariance, in the reference frame. Densities are power spectral densities, not their roots.
 //! - A first covariance is that of the 21 error coordinates, not of the state's parts: [`Deviations::sigma`] makes it.
 //!
 //! docs/MANUAL.md of the repository has all of this at length; include/drifters_eqf.h says what the library asks of
-//! the machine: the usual floating-point mode, and about 50 kB of stack for a call, 125 kB for a sheet.
+//! the machine: the usual floating-point mode, and about 70 kB of stack for a call, 145 kB for a sheet.
 //!
 //! # What is proved
 //!
@@ -107,7 +117,7 @@ struct Manual;
 
 pub use deviations::Deviations;
 pub use filter::Filter;
-pub use inputs::{diagonal, Densities, Direction, Fix, General, Imu, Start, VelocityFix};
+pub use inputs::{diagonal, Densities, Direction, Fix, General, Imu, Scalar, Start, VelocityFix};
 pub use refusal::Refusal;
 pub use scalar::{sin_cos, sqrt};
 #[cfg(feature = "std")]
@@ -137,5 +147,7 @@ pub const VELOCITY_LENGTH: usize = places::velocity::NOISE + 9;
 pub const DIRECTION_LENGTH: usize = places::direction::NOISE + 9;
 /// How many numbers a general update takes.
 pub const UPDATE_LENGTH: usize = places::update::NOISE + 9;
+/// How many numbers an update by one measured number takes.
+pub const SCALAR_LENGTH: usize = places::scalar::VARIANCE + 1;
 /// How many bytes hold the text of every sheet.
 pub const TEXT_LENGTH: usize = 5865;

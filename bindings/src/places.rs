@@ -119,7 +119,20 @@ pub mod update {
     pub const NOISE: usize = INNOVATION + 3;
 }
 
-/// The 21 error coordinates: the rows and columns of a covariance, the columns of an output matrix. Each has three.
+/// The parts of an update by one measured number, [`SCALAR_LENGTH`](crate::SCALAR_LENGTH) numbers.
+pub mod scalar {
+    use crate::STATES;
+
+    /// The output row, 1 by 21.
+    pub const OUTPUT: usize = 0;
+    /// The innovation, one number.
+    pub const INNOVATION: usize = OUTPUT + STATES;
+    /// The variance, one number.
+    pub const VARIANCE: usize = INNOVATION + 1;
+}
+
+/// The 21 error coordinates: the rows and columns of a covariance, the columns of an output matrix or row. Each part has
+/// three.
 ///
 /// They are not the differences of the state's parts: [`Deviations::sigma`](crate::Deviations::sigma) has the map.
 pub mod coordinate {

@@ -8,6 +8,7 @@ mod inputs;
 mod lengths;
 mod parts;
 mod refusals;
+mod scalar_updates;
 mod scalars;
 mod sheets;
 mod signs;

@@ -65,6 +65,10 @@ static void update_places(void)
     CHECK(DRIFTERS_UPDATE_INNOVATION == 63);
     CHECK(DRIFTERS_UPDATE_NOISE == 66);
     CHECK(DRIFTERS_UPDATE_LENGTH == 75);
+    CHECK(DRIFTERS_SCALAR_OUTPUT == 0);
+    CHECK(DRIFTERS_SCALAR_INNOVATION == 21);
+    CHECK(DRIFTERS_SCALAR_VARIANCE == 22);
+    CHECK(DRIFTERS_SCALAR_LENGTH == 23);
     CHECK(DRIFTERS_NIS_LENGTH == 1);
     CHECK(DRIFTERS_SIN_COS_LENGTH == 2);
 }
@@ -91,6 +95,7 @@ static void sheets(void)
     CHECK(DRIFTERS_KIND_DIRECTION == 4);
     CHECK(DRIFTERS_KIND_GENERAL == 5);
     CHECK(DRIFTERS_KIND_STATE == 6);
+    CHECK(DRIFTERS_KIND_SCALAR == 7);
     CHECK(DRIFTERS_SHEET_ENTRIES == 256);
     CHECK(DRIFTERS_SHEET_BYTES == 65536);
     CHECK(DRIFTERS_TEXT_LENGTH == 5865);
@@ -126,5 +131,5 @@ int main(void)
     sheets();
     codes();
     version();
-    return status_of("constants", 76);
+    return status_of("constants", 81);
 }

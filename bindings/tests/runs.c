@@ -62,6 +62,11 @@ static void update_numbers(double *numbers)
     diagonal(numbers + DRIFTERS_UPDATE_NOISE, 3, 1.0);
 }
 
+static void scalar_numbers(double *numbers)
+{
+    numbers[DRIFTERS_SCALAR_VARIANCE] = 1.0;
+}
+
 static void no_numbers(double *numbers)
 {
     (void)numbers;
@@ -102,6 +107,12 @@ static uint32_t update(const struct run *run)
                            run[WRITTEN].at, run[WRITTEN].length);
 }
 
+static uint32_t scalar(const struct run *run)
+{
+    return drifters_update_scalar(run[FILTER].at, run[FILTER].length, run[NUMBERS].at, run[NUMBERS].length,
+                                  run[WRITTEN].at, run[WRITTEN].length);
+}
+
 static uint32_t nav_state(const struct run *run)
 {
     return drifters_nav_state(run[FILTER].at, run[FILTER].length, run[WRITTEN].at, run[WRITTEN].length);
@@ -120,7 +131,7 @@ struct function {
     size_t lengths[RUNS];
 };
 
-#define FUNCTIONS 8
+#define FUNCTIONS 9
 static const struct function functions[FUNCTIONS] = {
     {"start", start, start_numbers, {DRIFTERS_FILTER_LENGTH, DRIFTERS_START_LENGTH, 0}},
     {"propagate", propagate, propagate_numbers, {DRIFTERS_FILTER_LENGTH, DRIFTERS_PROPAGATE_LENGTH, 0}},
@@ -129,6 +140,7 @@ static const struct function functions[FUNCTIONS] = {
     {"direction", direction, direction_numbers,
      {DRIFTERS_FILTER_LENGTH, DRIFTERS_DIRECTION_LENGTH, DRIFTERS_NIS_LENGTH}},
     {"update", update, update_numbers, {DRIFTERS_FILTER_LENGTH, DRIFTERS_UPDATE_LENGTH, DRIFTERS_NIS_LENGTH}},
+    {"scalar", scalar, scalar_numbers, {DRIFTERS_FILTER_LENGTH, DRIFTERS_SCALAR_LENGTH, DRIFTERS_NIS_LENGTH}},
     {"nav_state", nav_state, no_numbers, {DRIFTERS_FILTER_LENGTH, 0, DRIFTERS_STATE_LENGTH}},
     {"sin_cos", sin_cos, no_numbers, {0, 0, DRIFTERS_SIN_COS_LENGTH}},
 };
@@ -265,6 +277,6 @@ int main(void)
     empty_sheet();
     sheet_lengths();
     numbers_only();
-    /* 19 runs, with a start and six checks each; 8 functions with a start and two checks each; the rest */
-    return status_of("runs", 19 * 7 + FUNCTIONS * 3 + 5 + 7 + 3);
+    /* 22 runs, with a start and six checks each; 9 functions with a start and two checks each; the rest */
+    return status_of("runs", 22 * 7 + FUNCTIONS * 3 + 5 + 7 + 3);
 }

@@ -74,6 +74,13 @@ fn slices_of_the_length_are_taken() {
     }
     .numbers();
     assert_same(|f| f.update_slice(&call), |f| f.update(&call));
+    let call = Scalar {
+        output: [0.1; STATES],
+        innovation: 1.0,
+        variance: 1.0,
+    }
+    .numbers();
+    assert_same(|f| f.update_scalar_slice(&call), |f| f.update_scalar(&call));
 }
 
 #[test]
@@ -114,6 +121,7 @@ fn slices_of_another_length_are_refused() {
             refused
         );
         assert_eq!(f.update_slice(slice(UPDATE_LENGTH)).err(), refused);
+        assert_eq!(f.update_scalar_slice(slice(SCALAR_LENGTH)).err(), refused);
         assert_eq!(f, whole_case());
         let mut state = vec![1.0; STATE_LENGTH - 1 + off];
         assert_eq!(f.nav_state_slice(&mut state).err(), refused);

@@ -85,6 +85,12 @@ fn numbers_of_the_updates() {
         noise: rows_from(66),
     };
     assert_eq!(seen.numbers(), counting());
+    let seen = Scalar {
+        output: counting_from(0),
+        innovation: 21.0,
+        variance: 22.0,
+    };
+    assert_eq!(seen.numbers(), counting());
 }
 
 #[test]

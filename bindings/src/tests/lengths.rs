@@ -12,6 +12,7 @@ fn lengths() {
     assert_eq!(VELOCITY_LENGTH, 15);
     assert_eq!(DIRECTION_LENGTH, 15);
     assert_eq!(UPDATE_LENGTH, 75);
+    assert_eq!(SCALAR_LENGTH, 23);
     assert_eq!(TEXT_LENGTH, 5865);
 }
 
@@ -62,6 +63,11 @@ fn places_of_the_updates() {
         [update::OUTPUT, update::INNOVATION, update::NOISE],
         [0, 63, 66]
     );
+    use places::scalar;
+    assert_eq!(
+        [scalar::OUTPUT, scalar::INNOVATION, scalar::VARIANCE],
+        [0, 21, 22]
+    );
 }
 
 #[test]
@@ -77,9 +83,9 @@ fn coordinates() {
 fn kinds() {
     use kind::*;
     let all = [
-        FILTER, PROPAGATE, POSITION, VELOCITY, DIRECTION, GENERAL, STATE,
+        FILTER, PROPAGATE, POSITION, VELOCITY, DIRECTION, GENERAL, STATE, SCALAR,
     ];
-    assert_eq!(all, [0, 1, 2, 3, 4, 5, 6]);
+    assert_eq!(all, [0, 1, 2, 3, 4, 5, 6, 7]);
 }
 
 /// The crate and the header are of one version.

@@ -5,13 +5,18 @@ use std::vec::Vec;
 
 /// The sheet of a filter and position calls.
 fn sheet(filter: &Filter, calls: &[[f64; POSITION_LENGTH]]) -> Vec<u8> {
+    sheet_of(kind::POSITION, filter, calls)
+}
+
+/// The sheet of a filter and calls of one kind.
+fn sheet_of<const N: usize>(kind: u32, filter: &Filter, calls: &[[f64; N]]) -> Vec<u8> {
     let n = 1 + calls.len();
     let mut bytes = (n as u32).to_le_bytes().to_vec();
     let mut offset = 4 + 8 * n;
     for i in 0..n {
         let (kind, length) = match i {
             0 => (kind::FILTER, FILTER_LENGTH),
-            _ => (kind::POSITION, POSITION_LENGTH),
+            _ => (kind, N),
         };
         bytes.extend(kind.to_le_bytes());
         bytes.extend((offset as u32).to_le_bytes());
@@ -36,6 +41,29 @@ fn whole_case_sheet() {
     assert_eq!(text(&bytes), expected);
     #[cfg(feature = "std")]
     assert_eq!(run_sheet(&bytes), expected);
+}
+
+/// Updates by one number; the first number that is no kind.
+#[test]
+fn a_sheet_of_scalar_updates() {
+    let seen = |innovation, variance| {
+        let output = [0.0; STATES];
+        Scalar {
+            output,
+            innovation,
+            variance,
+        }
+        .numbers()
+    };
+    let calls = [seen(0.0, 1.0), seen(1.0, 4.0), seen(0.0, -1.0)];
+    assert_eq!(
+        text(&sheet_of(kind::SCALAR, &whole_case(), &calls)),
+        "1 7 0000000000000000\n2 7 3FD0000000000000\n3 7 refused 4\n"
+    );
+    assert_eq!(
+        text(&sheet_of(kind::SCALAR + 1, &whole_case(), &calls)),
+        "refused 6\n"
+    );
 }
 
 #[test]

@@ -140,6 +140,46 @@ fn a_general_update_is_predicted_less_measured() {
     );
 }
 
+/// The height of the sensor, as docs/MANUAL.md has its row, moves the filter as an update by position does that says
+/// nothing of north and east, where the lever arm is known to be zero.
+#[test]
+fn a_height_is_the_third_axis_of_a_position() {
+    let state = State {
+        lever: [0.0; 3],
+        ..moving()
+    };
+    let deviations = Deviations {
+        attitude: [0.02; 3],
+        velocity: [0.1; 3],
+        position: [0.5; 3],
+        ..Deviations::default()
+    };
+    let first = started(&state, deviations.sigma(&state));
+    let (p, off, variance) = (state.position, 0.3, 0.04);
+
+    let (mut by_height, mut by_position) = (first.clone(), first.clone());
+    let mut output = [0.0; STATES];
+    output[coordinate::ATTITUDE] = -p[1];
+    output[coordinate::ATTITUDE + 1] = p[0];
+    output[coordinate::POSITION + 2] = -1.0;
+    let seen = Scalar {
+        output,
+        innovation: -off,
+        variance,
+    };
+    let nis = by_height.update_scalar(&seen.numbers()).unwrap();
+    let fix = Fix {
+        antenna: plus(p, [0.0, 0.0, off]),
+        noise: diagonal([1e12, 1e12, variance]),
+    };
+    let expected = by_position.update_position(&fix.numbers()).unwrap();
+
+    assert_close(&[nis], &[expected], 1e-10);
+    assert_close(&by_height.0, &by_position.0, 1e-10);
+    let moved = minus(by_height.position(), p);
+    assert!(moved[2] > 0.1 && moved[2] < off, "{moved:?}");
+}
+
 /// The covariance of turned axes that have these variances: R D R^T.
 fn turned(r: [[f64; 3]; 3], variances: [f64; 3]) -> [[f64; 3]; 3] {
     product(product(r, diagonal(variances)), transposed(r))

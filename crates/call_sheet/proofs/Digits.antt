@@ -9,11 +9,11 @@ use lib.Dec.{ltb}
 use lib.ListN.{length, take, replicate, length-append}
 use lib.Seq.{take-at}
 use lib.Ieee.{binary64, toBits}
-use Rattle.drifters_entry.specs.Kind.{kindNumber}
+use Rattle.drifters_kind.specs.Kind.{kindNumber}
 use Rattle.drifters_eqf.specs.declared.filter.Answer.{Answer}
 use Rattle.drifters_eqf.specs.declared.filter.Answer.the-variants.{Nis, Fine, Refused}
-use Rattle.drifters_entry.specs.declared.kind.Kind.{Kind}
-use Rattle.drifters_entry.proofs.KindLaws.{number-digit}
+use Rattle.drifters_kind.specs.declared.kind.Kind.{Kind}
+use Rattle.drifters_kind.proofs.ByNumber.{number-digit}
 use Rattle.call_sheet.specs.declared.text.Text.{Text}
 use Rattle.call_sheet.specs.Digits.{digit, digits, decimal}
 use Rattle.call_sheet.specs.Text.{answerText}

@@ -11,10 +11,10 @@ use lib.Dec.{leb}
 use lib.ListN.{length, getD, take, drop, length-append}
 use lib.Seq.{drop-cons}
 use lib.Ieee.{Float}
-use Rattle.drifters_entry.specs.Kind.{callLength, kindOf}
+use Rattle.drifters_kind.specs.Kind.{callLength, kindOf}
 use Rattle.drifters_entry.specs.Log.{outcomeOn, entriesFrom}
 use Rattle.drifters_eqf.specs.declared.filter.Answer.{Answer}
-use Rattle.drifters_entry.specs.declared.kind.Kind.{Kind}
+use Rattle.drifters_kind.specs.declared.kind.Kind.{Kind}
 use Rattle.call_sheet.specs.Sheet.{SheetCall, sheetCall, withCall, callFrom, callsIn}
 use Rattle.call_sheet.specs.Text.{callOf, lineText, linesText}
 use Rattle.call_sheet.proofs.SheetLayout.{no-some}

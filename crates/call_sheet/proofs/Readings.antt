@@ -3,7 +3,7 @@ use mathlib.Core.Path.{refl}
 use lib.Ieee.{ofBits, toBits}
 use Rattle.drifters_entry.specs.Log.{entriesFrom}
 use Rattle.call_sheet.specs.Digits.{digits, decimal}
-use Rattle.drifters_entry.specs.Kind.{findKind}
+use Rattle.drifters_kind.specs.Kind.{findKind}
 use Rattle.call_sheet.specs.Sheet.{callsAt, headerFits, readSheet}
 use Rattle.call_sheet.specs.Text.{numbersOf, lineText, linesText, sheetText}
 use Rattle.call_sheet.specs.Readings.{readings, Readings}

@@ -15,10 +15,10 @@ use lib.Seq.{take-at, drop-at}
 use Rattle.drifters_matrix.specs.Matrix.{tab}
 use Rattle.drifters_matrix.proofs.Matrix.Tab.{length-tab, tab-add}
 use Rattle.drifters_eqf.specs.Answer.{lengthRefusal}
-use Rattle.drifters_entry.specs.Kind.{kindNumber, callLength, kindOf}
+use Rattle.drifters_kind.specs.Kind.{kindNumber, callLength, kindOf}
 use Rattle.drifters_entry.specs.Layout.{filterLength}
-use Rattle.drifters_entry.specs.declared.kind.Kind.{Kind}
-use Rattle.drifters_entry.proofs.KindLaws.{kindsFound, number-of-kind}
+use Rattle.drifters_kind.specs.declared.kind.Kind.{Kind}
+use Rattle.drifters_kind.proofs.ByNumber.{kindsFound, number-of-kind}
 use Rattle.call_sheet.specs.declared.sheet.Filled.the-variants.{Refused}
 use Rattle.little_endian.specs.Bytes.{u64At, u64sAt}
 use Rattle.call_sheet.specs.Sheet.{

@@ -7,8 +7,8 @@ use lib.ListN.{length, replicate}
 use lib.Ieee.{binary64, ofBits}
 use Rattle.drifters_eqf.specs.declared.filter.Answer.the-variants.{Nis, Fine, Refused}
 use Rattle.drifters_entry.specs.Layout.{filterLength}
-use Rattle.drifters_entry.specs.Kind.{kindNumber, callLength, allKinds}
-use Rattle.drifters_entry.specs.declared.kind.Kind.the-variants.{Position, State}
+use Rattle.drifters_kind.specs.Kind.{kindNumber, callLength, allKinds}
+use Rattle.drifters_kind.specs.declared.kind.Kind.the-variants.{Position, State}
 use Rattle.little_endian.specs.Bytes.{bytesOf}
 use Rattle.drifters_real.specs.Reading.{Reading, reads, AsStated}
 use Rattle.call_sheet.specs.Sheet.{tableBytes, filterEnd, headerFits, readSheet, isSome}

@@ -8,8 +8,8 @@ use lib.Dec.{eqb, leb}
 use lib.ListN.{length, take, drop}
 use Rattle.drifters_eqf.specs.Answer.{lengthRefusal, sheetRefusal}
 use Rattle.drifters_entry.specs.Layout.{filterLength}
-use Rattle.drifters_entry.specs.Kind.{kindNumber, callLength, kindOf}
-use Rattle.drifters_entry.specs.declared.kind.Kind.{Kind}
+use Rattle.drifters_kind.specs.Kind.{kindNumber, callLength, kindOf}
+use Rattle.drifters_kind.specs.declared.kind.Kind.{Kind}
 use Rattle.call_sheet.specs.declared.sheet.Filled.{Filled}
 use Rattle.call_sheet.specs.declared.sheet.Filled.the-variants.{Length, Refused}
 use Rattle.little_endian.specs.Bytes.{u32At, u64sAt, placed}

@@ -8,11 +8,11 @@ use lib.ListN.{length}
 use lib.Ieee.{Float, binary64, toBits}
 unfoldable pub use Rattle.little_endian.specs.Bits.{numbersOf}
 use Rattle.drifters_eqf.specs.Answer.{lengthRefusal, sheetRefusal}
-use Rattle.drifters_entry.specs.Kind.{kindNumber}
+use Rattle.drifters_kind.specs.Kind.{kindNumber}
 use Rattle.drifters_entry.specs.Log.{Call, LogEntry, Log, entriesFrom, logOf}
 use Rattle.drifters_eqf.specs.declared.filter.Answer.{Answer}
 use Rattle.drifters_eqf.specs.declared.filter.Answer.the-variants.{Nis, Fine, Refused}
-use Rattle.drifters_entry.specs.declared.kind.Kind.{Kind}
+use Rattle.drifters_kind.specs.declared.kind.Kind.{Kind}
 use Rattle.call_sheet.specs.declared.sheet.Filled.{Filled}
 use Rattle.call_sheet.specs.declared.sheet.Filled.the-variants as filled
 use Rattle.little_endian.specs.Bytes.{placed}

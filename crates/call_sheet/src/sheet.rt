@@ -5,10 +5,10 @@ ghost use lib.ListN.{length};
 ghost use Rattle.drifters_matrix.specs.Matrix.{tab};
 ghost use Rattle.call_sheet.specs.Sheet.{mostEntries, kindAt, filterEnd, callsAt, readSheet, isSome, runs, readInto};
 use drifters_entry::entry::FILTER_LENGTH;
-use drifters_entry::kind::FoundKind;
-use drifters_entry::kind::call_length;
-use drifters_entry::kind::kind_of;
 use drifters_eqf::filter::LENGTH_REFUSAL;
+use drifters_kind::kind::FoundKind;
+use drifters_kind::kind::call_length;
+use drifters_kind::kind::kind_of;
 use little_endian::bytes::u32_at;
 use little_endian::bytes::u64s_at;
 

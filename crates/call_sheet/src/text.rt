@@ -3,13 +3,13 @@ ghost use mathlib.Core.Path.{_≡_};
 ghost use Prim.Native.Nat.{_+_, _-_, _≤_, _<_};
 ghost use mathlib.Core.List.{_++_};
 ghost use lib.ListN.{length, replicate};
-ghost use Rattle.drifters_entry.specs.Kind.{kindNumber};
+ghost use Rattle.drifters_kind.specs.Kind.{kindNumber};
 ghost use Rattle.little_endian.specs.Bytes.{placed};
 ghost use Rattle.call_sheet.specs.Digits.{digit, digits, decimal};
 ghost use Rattle.call_sheet.specs.Text.{refusedText, answerText, lineText};
-use drifters_entry::kind::Kind;
-use drifters_entry::kind::form_of;
 use drifters_eqf::filter::Answer;
+use drifters_kind::kind::Kind;
+use drifters_kind::kind::form_of;
 use little_endian::bits::bits_of;
 
 // Text of at most 16 bytes: the first `length` of them; the others are 0.

@@ -1,14 +1,18 @@
-// Makes one call of each kind on a filter, and one refusal of each number that a call can give, and prints the answers.
+// Makes one call of each kind on a filter, one refusal of each number that a call can give, and each refusal of a scalar update, and prints the
+// answers.
 use call_sheet::text::answer_text;
 use drifters_entry::entry;
 use drifters_entry::entry::FILTER_LENGTH;
 use drifters_entry::entry::START_LENGTH;
-use drifters_entry::entry::STATE_LENGTH;
 use drifters_eqf::filter::Answer;
+use drifters_kind::kind::STATE_LENGTH;
 use libc::STDOUT_FILENO;
 
 // The last number of a start: gravity downwards.
 const LAST: usize = START_LENGTH - 1;
+
+// The last number of a filter: alpha.
+const ALPHA: usize = FILTER_LENGTH - 1;
 
 // A line: what was called, and its answer.
 fn report(called: &[u8], answer: Answer) {
@@ -111,27 +115,64 @@ fn update(run: &mut [f64]) {
     report(b"update", entry::update(run, &v));
 }
 
+// A scalar update: the first coordinate of the attitude, measured.
+fn update_scalar(run: &mut [f64], innovation: f64, variance: f64) {
+    let mut v = [0.0; 23];
+    v[0] = 1.0;
+    v[21] = innovation;
+    v[22] = variance;
+    report(b"update_scalar", entry::update_scalar(run, &v));
+}
+
+// A scalar update with 15 numbers in place of 23.
+fn update_scalar_by_few(run: &mut [f64]) {
+    let v = pair_numbers();
+    report(b"update_scalar", entry::update_scalar(run, &v));
+}
+
 fn nav_state(run: &[f64]) {
     let mut state = [0.0; STATE_LENGTH];
     report(b"nav_state", entry::nav_state(run, &mut state));
 }
 
-// One call of each kind, each on the filter that the one before it left; then one refusal of each number: too few numbers, a number that
-// is infinite, a turn above 8, noise below 0, densities that overflow; and an update of the filter that these left as it was. A refusal 6 is a
-// call sheet's.
+// One call of each kind, each on the filter that the one before it left.
+fn each_kind(run: &mut [f64]) {
+    propagate(run, 0.02, 0.01, 0.001);
+    update_position(run, 0.01);
+    update_velocity(run);
+    update_direction(run);
+    update(run);
+    nav_state(run);
+    update_scalar(run, 0.01, 0.25);
+}
+
+// One refusal of each number: too few numbers, a number that is infinite, a turn above 8, noise below 0, densities that overflow. A refusal 6
+// is a call sheet's.
+fn refusals(run: &mut [f64]) {
+    propagate_by_few(run);
+    propagate(run, 1.0 / 0.0, 0.01, 0.001);
+    propagate(run, 2000.0, 0.01, 0.001);
+    update_position(run, -100.0);
+    propagate(run, 0.02, 1.0, 1.0e308);
+}
+
+// Those of a scalar update, but for the turn: too few numbers, an innovation that is infinite, a variance below 0, a NIS that overflows.
+fn scalar_refusals(run: &mut [f64]) {
+    update_scalar_by_few(run);
+    update_scalar(run, 1.0 / 0.0, 0.25);
+    update_scalar(run, 0.01, -100.0);
+    update_scalar(run, 1.0e154, 0.01);
+}
+
+// A start's alpha, 0.5, keeps the turn of a scalar update of this filter below 8: it is 0 for that refusal. The last call is an update of the
+// filter that the refusals left as it was.
 fn main() {
     let mut run = [0.0; FILTER_LENGTH];
     start(&mut run);
-    propagate(&mut run, 0.02, 0.01, 0.001);
-    update_position(&mut run, 0.01);
-    update_velocity(&mut run);
-    update_direction(&mut run);
-    update(&mut run);
-    nav_state(&run);
-    propagate_by_few(&mut run);
-    propagate(&mut run, 1.0 / 0.0, 0.01, 0.001);
-    propagate(&mut run, 2000.0, 0.01, 0.001);
-    update_position(&mut run, -100.0);
-    propagate(&mut run, 0.02, 1.0, 1.0e308);
+    each_kind(&mut run);
+    refusals(&mut run);
+    scalar_refusals(&mut run);
+    run[ALPHA] = 0.0;
+    update_scalar(&mut run, 100.0, 0.25);
     update(&mut run);
 }

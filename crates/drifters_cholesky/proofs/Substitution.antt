@@ -1,4 +1,4 @@
--- What the loop of `substitute_row` over the entries of a row keeps, and one row more of a substitution. Assumes nothing.
+-- What the loop of `substitute_row` over the entries of a row keeps, one row more of a substitution, and both substitutions. Assumes nothing.
 use mathlib.Core.Path.{_≡_, refl, sym, ap, _∙_}
 use mathlib.Core.Bool.{Bool, true, false, cond}
 use mathlib.Core.List.{List}
@@ -14,7 +14,7 @@ use lib.ListN.{length, getD, set}
 use lib.Seq.{getD-set-same, getD-set-other}
 use lib.Ieee.{Float, nan}
 use Rattle.drifters_matrix.specs.Matrix.{at}
-use Rattle.drifters_cholesky.specs.Cholesky.{subTerms, setRow, substituted, forwardRow, forward, backRow, back}
+use Rattle.drifters_cholesky.specs.Cholesky.{subTerms, setRow, substituted, forwardRow, forward, backRow, back, solve}
 use Rattle.drifters_matrix.proofs.Matrix.Grid.{row-in, lt-or-le, matrix-is}
 use Rattle.drifters_cholesky.proofs.SubTerms.{sub-ext}
 
@@ -78,3 +78,8 @@ forward-next n c l b i {x} e h =
 pub back-next : (n c : ℕ) (l y : List Float) (p : ℕ) {i : ℕ} {x x' : List Float} → i ≡ n - (p + 1) → x ≡ back n c l y p → x' ≡ backRow n c l i x → x' ≡ back n c l y (p + 1)
 unfolding back
 back-next n c l y p {i} z e h = h ∙ ap (backRow n c l i) e ∙ ap (λ (q : ℕ). backRow n c l q (back n c l y p)) z ∙ sym (ap (back n c l y) (add-one p))
+
+-- both substitutions
+pub solved : (n c : ℕ) (l b : List Float) {y x : List Float} → y ≡ forward n c l b n → x ≡ back n c l y n → x ≡ solve n c l b
+unfolding solve
+solved n c l b h e = e ∙ ap (λ z. back n c l z n) h

@@ -1,4 +1,4 @@
--- Port of the factorisation of math/matrix.rs, for all widths, and what `Cholesky::new` answers at width 3. Definitions and statements only.
+-- Port of the factorisation of math/matrix.rs, for all widths. Definitions and statements only.
 use Prim.Native.Nat.{ℕ, zero, suc, _+_, _-_, _*_, _≤_, _<_}
 use mathlib.Core.Path.{_≡_}
 use mathlib.Core.Bool.{Bool, true, false, not, _||_, cond}
@@ -9,7 +9,6 @@ use lib.Ieee.{Float, le}
 use Rattle.drifters_real.specs.Scalar.{_⊖_, _⊗_, _⊘_, plusZero}
 use Rattle.drifters_real.specs.Real.{sqrt, isFinite}
 use Rattle.drifters_matrix.specs.Matrix.{at, matrix, zeros}
-use Rattle.drifters_cholesky.specs.declared.math.cholesky.Factored3.{Factored3}
 
 -- a pivot at which the factorisation stops: not finite, or at most 0
 abbrev pub badPivot : Float → Bool
@@ -19,6 +18,16 @@ badPivot x = not (isFinite x) || le x plusZero
 pub data Factor : Type 0 where
   none : Factor
   lower : List Float → Factor
+
+-- whether there is a factor
+abbrev pub definite : Factor → Bool
+definite none = false
+definite (lower l) = true
+
+-- the entries of an n by n factor; zeros where there is none
+abbrev pub entriesOf : ℕ → Factor → List Float
+entriesOf n none = zeros (n * n)
+entriesOf n (lower l) = l
 
 -- the products f 0 ⊗ g 0, .., f (n - 1) ⊗ g (n - 1) taken from start in that order
 unfoldable pub subTerms : Float → (ℕ → Float) → (ℕ → Float) → ℕ → Float
@@ -81,15 +90,6 @@ back n c l y (suc p) = backRow n c l (n - (p + 1)) (back n c l y p)
 -- the solution of A X = B, with the n by n factor l of A and the n by c matrix b
 unfoldable pub solve : ℕ → ℕ → List Float → List Float → List Float
 solve n c l b = back n c l (forward n c l b n) n
-
--- the answer for 3 by 3 matrices: the factor, or that the matrix is not positive definite, and zeros
-abbrev pub answer3 : Factor → Factored3
-answer3 none = record { definite = false; factor = record { lower = record { «data» = zeros 9 } } }
-answer3 (lower l) = record { definite = true; factor = record { lower = record { «data» = l } } }
-
--- what the factorisation of a 3 by 3 matrix answers
-unfoldable pub factored3 : List Float → Factored3
-factored3 a = answer3 (cholesky 3 a)
 
 -- the factorisation reads the lower triangle only
 abbrev pub LowerOnly : Type 0

@@ -9,7 +9,7 @@ use Rattle.drifters_matrix.specs.Matrix.{matmul, symmetrize}
 use Rattle.drifters_matrix.proofs.Matrix.Grid.{length-matrix}
 use Rattle.drifters_lie.specs.Lie.{composeSe23}
 use Rattle.drifters_symmetry.specs.Group.{compose, actState}
-use Rattle.drifters_eqf.specs.Gcu.{definite}
+use Rattle.drifters_cholesky.specs.Cholesky.{definite}
 use Rattle.drifters_eqf.specs.Filter.{turnFits, navState, halfStep, fullStep, propagatedSigma, propagated, propagate, rawFactor, inflatedFactor, Correction, step, corrected, applied, update}
 use Rattle.drifters_entry.specs.Layout.{SizedFilter, SizedState}
 use Rattle.drifters_symmetry.specs.declared.group.Symmetry.{Symmetry}

@@ -1,8 +1,8 @@
 -- The three demands, each a named statement. The proofs are in proofs/Demands/. Definitions and statements only.
 -- They are about the definitions `call`, `start` and `readInto`, and of the code the contracts say it: the outcome of an entry of drifters_entry is
--- `call` at Propagate, Position, Velocity, Direction, General and State (propagate, update_position, update_velocity, update_direction, update,
--- nav_state), and `start` (start); `read_sheet` and `run_sheet` of call_sheet leave what `readInto` and `sheetText` say; square root, sine and
--- cosine are those of drifters_real.
+-- `call` at Propagate, Position, Velocity, Direction, General, State and Scalar (propagate, update_position, update_velocity, update_direction,
+-- update, nav_state, update_scalar), and `start` (start); `read_sheet` and `run_sheet` of call_sheet leave what `readInto` and `sheetText` say;
+-- square root, sine and cosine are those of drifters_real.
 use Prim.Native.Nat.{ℕ, _+_, _*_, _<_}
 use mathlib.Core.Path.{_≡_}
 use mathlib.Core.Logic.{_↔_}
@@ -16,17 +16,18 @@ use Rattle.drifters_real.specs.Scalar.{plusZero}
 use Rattle.drifters_real.specs.Real.{isFinite, SqrtNearest, SineBound, CosineBound}
 use Rattle.drifters_matrix.specs.Matrix.{allFinite}
 use Rattle.drifters_eqf.specs.Answer.{lengthRefusal, blankRefusal, turnRefusal, pivotRefusal, rangeRefusal, sheetRefusal, numberOf, valuesOf}
-use Rattle.drifters_eqf.specs.Gcu.{definite, entriesOf, nis}
+use Rattle.drifters_cholesky.specs.Cholesky.{definite, entriesOf}
+use Rattle.drifters_gcu.specs.Gcu.{nis}
 use Rattle.drifters_eqf.specs.Filter.{turnFits, navState, halfStep, fullStep, propagated, rawFactor, inflatedFactor, gain, correction, step, corrected}
 use Rattle.drifters_eqf.specs.declared.filter.EqFilter.{EqFilter}
 use Rattle.drifters_eqf.specs.declared.filter.Answer.{Answer}
 use Rattle.drifters_eqf.specs.declared.filter.Answer.the-variants.{Nis, Fine, Refused}
 use Rattle.drifters_entry.specs.Layout.{filterLength, startLength, sigmaPlace, fromRun, toRun, stateToRun}
-use Rattle.drifters_entry.specs.Kind.{formOf, writtenLength}
+use Rattle.drifters_kind.specs.Kind.{formOf, writtenLength}
 use Rattle.drifters_entry.specs.Entry.{Request, refusal, propagation, measurement, estimate, requestOf, Outcome, refused, lengthsFit, call, started, start}
 use Rattle.drifters_entry.specs.Log.{Call, LogEntry, Log, logOf}
-use Rattle.drifters_entry.specs.declared.kind.Kind.{Kind}
-use Rattle.drifters_entry.specs.declared.kind.Kind.the-variants.{State}
+use Rattle.drifters_kind.specs.declared.kind.Kind.{Kind}
+use Rattle.drifters_kind.specs.declared.kind.Kind.the-variants.{State}
 use Rattle.call_sheet.specs.Sheet.{Sheet, Runs, readSheet, isSome, refusalOf, runsFit, inRuns, readInto}
 use Rattle.call_sheet.specs.Text.{refusedLine, numbersOf, callOf, linesText, sheetText}
 use Rattle.call_sheet.specs.declared.sheet.Filled.the-variants as filled
@@ -64,7 +65,7 @@ laterChecks (measurement w m noise alpha) f =
     unless pivotRefusal (definite (rawFactor w f c noise))
     ∷ unless pivotRefusal (definite (inflatedFactor w f c y noise alpha))
     ∷ unless turnRefusal (turnFits (step u))
-    ∷ unless rangeRefusal (isFinite (nis w (entriesOf (rawFactor w f c noise)) y) && allFinite (toRun (corrected f u)))
+    ∷ unless rangeRefusal (isFinite (nis w (entriesOf w (rawFactor w f c noise)) y) && allFinite (toRun (corrected f u)))
     ∷ []
 laterChecks estimate f = unless rangeRefusal (allFinite (stateToRun (navState f))) ∷ []
 
@@ -129,7 +130,7 @@ acceptedOutcome (measurement w m noise alpha) f run written =
     let c = m .output in
     let y = m .innovation in
     record {
-      answer = Nis (nis w (entriesOf (rawFactor w f c noise)) y);
+      answer = Nis (nis w (entriesOf w (rawFactor w f c noise)) y);
       run = toRun (corrected f (correction w (gain w f c y noise alpha) c y noise));
       written = written;
     }

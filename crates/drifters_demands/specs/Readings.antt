@@ -1,7 +1,7 @@
 -- The starred readings, of the definitions at known numbers: one table, and one theorem. The proof is in proofs/Readings.antt. Definitions and statements only.
 use Prim.Native.Nat.{ℕ}
 use mathlib.Core.Bool.{false}
-use mathlib.Core.List.{List, [], _∷_, map}
+use mathlib.Core.List.{List, [], _∷_, _++_, map}
 use lib.ListN.{replicate}
 use lib.Ieee.{Float, nan, inf, binary64, ofBits, toBits}
 use Rattle.drifters_real.specs.Reading.{Reading, reads, AsStated}
@@ -12,9 +12,9 @@ use Rattle.drifters_core.specs.Vec3.{vec3, zeroVec3}
 use Rattle.drifters_cholesky.specs.Cholesky.{Factor, none, lower, cholesky}
 use Rattle.drifters_lie.specs.Lie.{se3Tangent}
 use Rattle.drifters_adjoint.specs.Adjoint.{mostHalvings, halvings}
-use Rattle.drifters_eqf.specs.Gcu.{beta}
-use Rattle.drifters_entry.specs.declared.kind.Kind.{Kind}
-use Rattle.drifters_entry.specs.declared.kind.Kind.the-variants.{Position, State}
+use Rattle.drifters_gcu.specs.Gcu.{beta, nis}
+use Rattle.drifters_kind.specs.declared.kind.Kind.{Kind}
+use Rattle.drifters_kind.specs.declared.kind.Kind.the-variants.{Position, State, Scalar}
 use Rattle.drifters_demands.specs.Like.{signed, Signs, aboutX, aboutY, aboutZ, axis}
 use Rattle.drifters_demands.specs.Turn.{turnCall}
 
@@ -62,6 +62,7 @@ readings u v w =
     let four = float 0x4010_0000_0000_0000 in
     let nine = float 0x4022_0000_0000_0000 in
     let sixteen = float 0x4030_0000_0000_0000 in
+    let axes = one ∷ minusOne ∷ minusOne ∷ [] in
     -- beta
     betaIs zero one
     ∷ betaIs one two
@@ -88,6 +89,9 @@ readings u v w =
     ∷ signsAre aboutZ minusOne minusOne one
     ∷ numbersAre (turnedAboutX Position (replicate 13 one)) (one ∷ minusOne ∷ minusOne ∷ one ∷ minusOne ∷ minusOne ∷ minusOne ∷ one ∷ one ∷ minusOne ∷ one ∷ one ∷ one ∷ [])
     ∷ numbersAre (turnedAboutX State (one ∷ one ∷ [])) (one ∷ one ∷ [])
+    -- of a scalar update: its NIS at y = 1 and S = 2, which is not 0.5; its row, which turns by its axes, and its innovation and variance, which do not
+    ∷ numbersAre (nis 1 (sqrt two ∷ []) (one ∷ []) ∷ []) (float 0x3fdf_ffff_ffff_ffff ∷ [])
+    ∷ numbersAre (turnedAboutX Scalar (replicate 23 one)) (axes ++ axes ++ axes ++ axes ++ axes ++ axes ++ axes ++ one ∷ one ∷ [])
     ∷ []
 
 -- every row of the table is as stated

@@ -6,10 +6,10 @@ use lib.Dec.{ltb}
 use lib.ListN.{length, getD}
 use lib.Ieee.{Float, nan, unlike}
 use Rattle.drifters_matrix.specs.Matrix.{tab}
-use Rattle.drifters_entry.specs.Kind.{callLength}
+use Rattle.drifters_kind.specs.Kind.{callLength}
 use Rattle.drifters_entry.specs.Log.{Call, LogEntry, Log}
-use Rattle.drifters_entry.specs.declared.kind.Kind.{Kind}
-use Rattle.drifters_entry.specs.declared.kind.Kind.the-variants.{Propagate, Position, Velocity, Direction, General, State}
+use Rattle.drifters_kind.specs.declared.kind.Kind.{Kind}
+use Rattle.drifters_kind.specs.declared.kind.Kind.the-variants.{Propagate, Position, Velocity, Direction, General, State, Scalar}
 use Rattle.drifters_demands.specs.Like.{signed, Signs, axis}
 
 -- ---- signs at each place of a run
@@ -39,7 +39,8 @@ abbrev pub filterSigns : Signs → ℕ → Bool
 filterSigns s =
     thenSigns 9 (rowSigns s) (thenSigns 15 (axis s) (thenSigns 9 (rowSigns s) (thenSigns 441 (matrixSigns 21 (axis s) (axis s)) (thenSigns 3 (axis s) plain))))
 
--- a call: antenna, north and innovation turn, noise and output matrix by rows and columns; omega, accel, dt, densities and measured do not
+-- a call: antenna, north and the innovation of three turn, noise and output matrix by rows and columns, an output row by its columns; omega, accel, dt,
+-- densities, measured, and the innovation and variance of one number do not
 abbrev pub callSigns : Kind → Signs → ℕ → Bool
 callSigns Propagate s = plain
 callSigns Position s = thenSigns 3 (axis s) (noiseSigns s)
@@ -47,6 +48,7 @@ callSigns Velocity s = thenSigns 3 (axis s) (thenSigns 3 plain (noiseSigns s))
 callSigns Direction s = thenSigns 3 plain (thenSigns 3 (axis s) (noiseSigns s))
 callSigns General s = thenSigns 63 (matrixSigns 21 (axis s) (axis s)) (thenSigns 3 (axis s) (noiseSigns s))
 callSigns State s = plain
+callSigns Scalar s = thenSigns 21 (axis s) plain
 
 -- the numbers of a state: the pose alone turns
 abbrev pub stateSigns : Signs → ℕ → Bool

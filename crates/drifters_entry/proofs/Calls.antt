@@ -12,13 +12,13 @@ use Rattle.drifters_real.specs.Real.{isFinite}
 use Rattle.drifters_matrix.specs.Matrix.{allFinite}
 use Rattle.drifters_eqf.specs.Answer.{lengthRefusal, blankRefusal, rangeRefusal}
 use Rattle.drifters_entry.specs.Layout.{filterLength, fromRun, toRun}
-use Rattle.drifters_entry.specs.Kind.{formOf, callLength, writtenLength}
+use Rattle.drifters_kind.specs.Kind.{formOf, callLength, writtenLength}
 use Rattle.drifters_entry.specs.Entry.{Request, requestOf, Outcome, outcome, outcomeOf, performed, refused, rangeCheckedAs, rangeChecked, lengthsFit, call}
 use Rattle.drifters_entry.specs.Asked.{firstRefusal}
 use Rattle.drifters_eqf.specs.declared.filter.Answer.{Answer}
 use Rattle.drifters_eqf.specs.declared.filter.Answer.the-variants.{Nis, Fine, Refused}
 use Rattle.drifters_eqf.specs.declared.filter.Answered.{Answered}
-use Rattle.drifters_entry.specs.declared.kind.Kind.{Kind}
+use Rattle.drifters_kind.specs.declared.kind.Kind.{Kind}
 use Rattle.drifters_entry.proofs.Parts.{allFinite-one}
 use Rattle.drifters_entry.proofs.KindLaws.{writtenBy, kind-laws}
 

@@ -1,20 +1,14 @@
--- What is known of every kind of call. A new kind is a line of `kind-laws`; what follows from these laws names no kind. Assumes nothing.
-use Prim.Native.Nat.{ℕ, _≤_, _<_}
-use mathlib.Core.Path.{_≡_, refl, sym, ap, _∙_}
-use mathlib.Core.Bool.{Bool, true, false, _&&_, cond, false≢true, and-eq-true-iff}
-use mathlib.Core.List.{List, [], _∷_}
-use mathlib.Core.Option.{Option, none, some, Option·some-injective}
-use borrow.Author.Tests.{eqb-true, leb-true, ltb-true}
-use lib.Dec.{eqb, leb, ltb}
+-- What is known of what the calls of every kind ask. A new kind is a line of `kind-laws`; what follows from these laws names no kind. Assumes nothing.
+use Prim.Native.Nat.{ℕ}
+use mathlib.Core.Path.{_≡_, refl, ap}
+use mathlib.Core.Bool.{Bool, true, false, false≢true}
+use mathlib.Core.List.{List}
 use lib.Ieee.{Float}
 use Rattle.drifters_eqf.specs.declared.filter.EqFilter.{EqFilter}
-use Rattle.drifters_entry.specs.Layout.{stateLength}
-use Rattle.drifters_entry.specs.Kind.{kindNumber, callLength, writtenLength, mostCallNumbers, allKinds, findKind, kindOf, KindsFound}
+use Rattle.drifters_kind.specs.Kind.{stateLength, writtenLength}
 use Rattle.drifters_entry.specs.Entry.{Request, refusal, propagation, measurement, estimate, requestOf}
-use Rattle.drifters_entry.specs.declared.kind.Kind.{Kind}
-use Rattle.drifters_entry.specs.declared.kind.Kind.the-variants.{Propagate, Position, Velocity, Direction, General, State}
-
--- ---- one kind after another
+use Rattle.drifters_kind.specs.declared.kind.Kind.{Kind}
+use Rattle.drifters_kind.specs.declared.kind.Kind.the-variants.{Propagate, Position, Velocity, Direction, General, State, Scalar}
 
 -- how many numbers what is asked writes beside the filter
 abbrev pub writtenBy : Request → ℕ
@@ -30,9 +24,8 @@ Numbered (propagation u dt q) = Unit
 Numbered (measurement w m noise alpha) = Unit
 Numbered estimate = Unit
 
--- a kind is found by its number, what its calls ask writes as many numbers as its calls do, its own refusals have numbers, and only the calls of `State` ask for the estimate
+-- what the calls of a kind ask writes as many numbers as they do, its own refusals have numbers, and only the calls of `State` ask for the estimate
 pub record KindLaws (kind : Kind) : Type 0 where
-  pub found : kindOf (kindNumber kind) ≡ some kind
   pub writes : (f : EqFilter) (v : List Float) → writtenLength kind ≡ writtenBy (requestOf kind f v)
   pub own : (f : EqFilter) (v : List Float) → Numbered (requestOf kind f v)
   pub asks : (f : EqFilter) (v : List Float) → requestOf kind f v ≡ estimate → kind ≡ State
@@ -48,71 +41,10 @@ never : {A : Type 0} → false ≡ true → A
 never e = absurd (false≢true e)
 
 pub kind-laws : (kind : Kind) → KindLaws kind
-unfolding findKind
-kind-laws Propagate = record { found = refl; writes = λ f v. refl; own = λ f v. tt; asks = λ f v e. never (ap isEstimate e) }
-kind-laws Position = record { found = refl; writes = λ f v. refl; own = λ f v. tt; asks = λ f v e. never (ap isEstimate e) }
-kind-laws Velocity = record { found = refl; writes = λ f v. refl; own = λ f v. tt; asks = λ f v e. never (ap isEstimate e) }
-kind-laws Direction = record { found = refl; writes = λ f v. refl; own = λ f v. tt; asks = λ f v e. never (ap isEstimate e) }
-kind-laws General = record { found = refl; writes = λ f v. refl; own = λ f v. tt; asks = λ f v e. never (ap isEstimate e) }
-kind-laws State = record { found = refl; writes = λ f v. refl; own = λ f v. tt; asks = λ f v e. refl }
-
--- ---- a kind by its number
-
-pub kindsFound : KindsFound
-kindsFound kind = kind-laws kind .found
-
--- whether there is a kind
-abbrev isKind : Option Kind → Bool
-isKind none = false
-isKind (some kind) = true
-
--- whether a test holds of some kinds
-unfoldable every : (Kind → Bool) → List Kind → Bool
-every p [] = true
-every p (kind ∷ kinds) = p kind && every p kinds
-
--- a kind that is found has the number n that it is found by, and passes every test that the kinds pass
-record Found (n : ℕ) (kinds : List Kind) (kind : Kind) : Type 0 where
-  number : kindNumber kind ≡ n
-  tested : (p : Kind → Bool) → every p kinds ≡ true → p kind ≡ true
-
-found-in : (n : ℕ) (kinds : List Kind) {kind : Kind} → findKind n kinds ≡ some kind → Found n kinds kind
-unfolding findKind every
-found-in n [] e = never (ap isKind e)
-found-in n (first ∷ kinds) {kind} e = go (eqb n (kindNumber first)) refl e (λ h. found-in n kinds h)
-  where
-    go : (b : Bool) → eqb n (kindNumber first) ≡ b → cond b (some first) (findKind n kinds) ≡ some kind
-        → (findKind n kinds ≡ some kind → Found n kinds kind) → Found n (first ∷ kinds) kind
-    go true t e after =
-        let is = Option·some-injective first kind e in
-        record {
-          number = ap kindNumber (sym is) ∙ sym (eqb-true n (kindNumber first) t);
-          tested = λ p h. ap p (sym is) ∙ and-eq-true-iff (p first) (every p kinds) .0 h .0;
-        }
-    go false t e after =
-        let later = after e in
-        record { number = later .number; tested = λ p h. later .tested p (and-eq-true-iff (p first) (every p kinds) .0 h .1) }
-
--- the kind of a number has that number
-pub number-of-kind : (n : ℕ) {kind : Kind} → kindOf n ≡ some kind → kindNumber kind ≡ n
-number-of-kind n e = found-in n allKinds e .number
-
--- ---- what holds of every kind, by a test that is computed
-
-every-kind : (p : Kind → Bool) → every p allKinds ≡ true → (kind : Kind) → p kind ≡ true
-every-kind p h kind = found-in (kindNumber kind) allKinds (kindsFound kind) .tested p h
-
--- no call has more numbers
-pub call-most : (kind : Kind) → callLength kind ≤ mostCallNumbers
-unfolding every
-call-most kind = leb-true _ _ (every-kind (λ k. leb (callLength k) mostCallNumbers) refl kind)
-
--- none writes more than a state
-pub written-most : (kind : Kind) → writtenLength kind ≤ stateLength
-unfolding every
-written-most kind = leb-true _ _ (every-kind (λ k. leb (writtenLength k) stateLength) refl kind)
-
--- the number of a kind has one digit
-pub number-digit : (kind : Kind) → kindNumber kind < 10
-unfolding every
-number-digit kind = ltb-true _ _ (every-kind (λ k. ltb (kindNumber k) 10) refl kind)
+kind-laws Propagate = record { writes = λ f v. refl; own = λ f v. tt; asks = λ f v e. never (ap isEstimate e) }
+kind-laws Position = record { writes = λ f v. refl; own = λ f v. tt; asks = λ f v e. never (ap isEstimate e) }
+kind-laws Velocity = record { writes = λ f v. refl; own = λ f v. tt; asks = λ f v e. never (ap isEstimate e) }
+kind-laws Direction = record { writes = λ f v. refl; own = λ f v. tt; asks = λ f v e. never (ap isEstimate e) }
+kind-laws General = record { writes = λ f v. refl; own = λ f v. tt; asks = λ f v e. never (ap isEstimate e) }
+kind-laws State = record { writes = λ f v. refl; own = λ f v. tt; asks = λ f v e. refl }
+kind-laws Scalar = record { writes = λ f v. refl; own = λ f v. tt; asks = λ f v e. never (ap isEstimate e) }

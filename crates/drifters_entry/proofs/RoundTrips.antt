@@ -13,7 +13,8 @@ use Rattle.drifters_core.specs.Vec3.{toArray}
 use Rattle.drifters_matrix.specs.declared.math.shapes.Mat3.{Mat3}
 use Rattle.drifters_matrix.proofs.Matrix.Tab.{tab-is}
 use Rattle.drifters_lie.specs.Lie.{mat3Of, toArraySe3, vec3At, se3TangentAt}
-use Rattle.drifters_entry.specs.Layout.{velocityPlace, positionPlace, gammaPlace, deltaPlace, ePlace, sigmaPlace, gravityPlace, alphaPlace, filterLength, stateLength, part, fromRun, toRun, stateFromRun, stateToRun, SizedFilter, SizedState, RoundTrips}
+use Rattle.drifters_entry.specs.Layout.{velocityPlace, positionPlace, gammaPlace, deltaPlace, ePlace, sigmaPlace, gravityPlace, alphaPlace, filterLength, part, fromRun, toRun, stateFromRun, stateToRun, SizedFilter, SizedState, RoundTrips}
+use Rattle.drifters_kind.specs.Kind.{stateLength}
 use Rattle.drifters_symmetry.specs.declared.group.Symmetry.{Symmetry}
 use Rattle.drifters_symmetry.specs.declared.group.State.{State}
 use Rattle.drifters_eqf.specs.declared.filter.EqFilter.{EqFilter}

@@ -1,4 +1,4 @@
--- The six kinds of call and the start, on lent runs: their lengths, their answers, and every lent number afterwards. Definitions only.
+-- The seven kinds of call and the start, on lent runs: their lengths, their answers, and every lent number afterwards. Definitions only.
 use Prim.Native.Nat.{ℕ, _+_}
 use mathlib.Core.Bool.{Bool, _&&_, cond}
 use mathlib.Core.List.{List, []}
@@ -10,8 +10,8 @@ use Rattle.drifters_eqf.specs.Answer.{lengthRefusal, blankRefusal, rangeRefusal
 use Rattle.drifters_lie.specs.Lie.{vec3At}
 use Rattle.drifters_covariance.specs.Covariance.{inputAt}
 use Rattle.drifters_eqf.specs.Filter.{new, navState, propagate, Measurement, updateBy, measuredPosition, measuredVelocity, measuredDirection}
-use Rattle.drifters_entry.specs.Kind.{formOf}
-use Rattle.drifters_entry.specs.declared.kind.Form.{Form}
+use Rattle.drifters_kind.specs.Kind.{formOf}
+use Rattle.drifters_kind.specs.declared.kind.Form.{Form}
 use Rattle.drifters_entry.specs.Layout.{sigmaPlace, gravityPlace, filterLength, startLength, part, fromRun, toRun, stateFromRun, stateToRun}
 use Rattle.drifters_symmetry.specs.declared.lift.Input.{Input}
 use Rattle.drifters_covariance.specs.declared.covariance.ProcessNoise.{ProcessNoise}
@@ -19,8 +19,8 @@ use Rattle.drifters_eqf.specs.declared.filter.EqFilter.{EqFilter}
 use Rattle.drifters_eqf.specs.declared.filter.Answer.{Answer}
 use Rattle.drifters_eqf.specs.declared.filter.Answer.the-variants.{Nis, Fine, Refused}
 use Rattle.drifters_eqf.specs.declared.filter.Answered.{Answered}
-use Rattle.drifters_entry.specs.declared.kind.Kind.{Kind}
-use Rattle.drifters_entry.specs.declared.kind.Kind.the-variants.{Propagate, Position, Velocity, Direction, General, State}
+use Rattle.drifters_kind.specs.declared.kind.Kind.{Kind}
+use Rattle.drifters_kind.specs.declared.kind.Kind.the-variants.{Propagate, Position, Velocity, Direction, General, State, Scalar}
 
 -- what a call asks of the filter: to propagate, to be updated by a measurement of w numbers with its noise and the share of inflation
 -- along the innovation, or its estimate; `refusal` is for a kind with a check of its own, which stands between blank and pivot
@@ -49,6 +49,7 @@ requestOf Velocity f v = measurement 3 (measuredVelocity (f .x) (vec3At v 0) (ve
 requestOf Direction f v = measurement 3 (measuredDirection (f .x) (vec3At v 0) (vec3At v 3)) (part v 6 9) (f .alpha)
 requestOf General f v = measurement 3 (record { output = part v 0 63; innovation = part v 63 3 }) (part v 66 9) (f .alpha)
 requestOf State f v = estimate
+requestOf Scalar f v = measurement 1 (record { output = part v 0 21; innovation = part v 21 1 }) (part v 22 1) (f .alpha)
 
 -- an answer, the filter's run, and the run that a state call writes, as they are after a call
 pub record Outcome : Type 0 where

@@ -9,6 +9,7 @@ use Rattle.drifters_matrix.specs.declared.math.shapes.Mat3.{Mat3}
 use Rattle.drifters_lie.specs.Lie.{mat3Of, toArraySe3, vec3At, se3TangentAt}
 use Rattle.drifters_lie.specs.declared.lie.Se23.{Se23}
 use Rattle.drifters_symmetry.specs.declared.group.State.{State}
+use Rattle.drifters_kind.specs.Kind.{stateLength}
 use Rattle.drifters_eqf.specs.declared.filter.EqFilter.{EqFilter}
 
 -- where the velocity of C begins, after its rotation
@@ -58,10 +59,6 @@ leverPlace = biasPlace + 6
 -- where the magnetometer calibration begins
 abbrev pub magPlace : ℕ
 magPlace = leverPlace + 3
-
--- how many numbers a state has
-abbrev pub stateLength : ℕ
-stateLength = magPlace + 9
 
 -- how many numbers a start takes: a state, a covariance, gravity
 abbrev pub startLength : ℕ

@@ -3,9 +3,9 @@ use mathlib.Core.List.{List, [], _∷_}
 use lib.Ieee.{Float}
 use Rattle.drifters_matrix.specs.Matrix.{zeros}
 use Rattle.drifters_eqf.specs.declared.filter.Answer.{Answer}
-use Rattle.drifters_entry.specs.Kind.{writtenLength}
+use Rattle.drifters_kind.specs.Kind.{writtenLength}
 use Rattle.drifters_entry.specs.Entry.{Outcome, call}
-use Rattle.drifters_entry.specs.declared.kind.Kind.{Kind}
+use Rattle.drifters_kind.specs.declared.kind.Kind.{Kind}
 
 -- one call: its kind and its numbers
 pub record Call : Type 0 where

@@ -7,15 +7,12 @@ ghost use lib.ListN.{length};
 ghost use Rattle.drifters_matrix.specs.Matrix.{allFinite};
 ghost use Rattle.drifters_lie.specs.Lie.{vec3At};
 ghost use Rattle.drifters_eqf.specs.Filter.{measurement3, measuredPosition, measuredVelocity, measuredDirection};
-ghost use Rattle.drifters_entry.specs.Layout.{filterLength, stateLength, part, fromRun};
-ghost use Rattle.drifters_entry.specs.Kind.{callLength};
+ghost use Rattle.drifters_entry.specs.Layout.{filterLength, part, fromRun};
+ghost use Rattle.drifters_kind.specs.Kind.{stateLength, callLength};
 ghost use Rattle.drifters_entry.specs.Asked.{firstRefusal, asRequest, Readable};
 ghost use Rattle.drifters_entry.specs.Entry.{measurement, estimate, processNoiseAt, requestOf, outcome, outcomeOf, performed, rangeChecked, call, start};
 ghost use Rattle.drifters_entry.specs.declared.entry.Action.the-variants.{Update3};
-ghost use Rattle.drifters_entry.specs.declared.kind.Kind.the-variants.{Propagate, Position, Velocity, Direction, General, State};
-use crate::kind::Form;
-use crate::kind::Kind;
-use crate::kind::form_of;
+ghost use Rattle.drifters_kind.specs.declared.kind.Kind.the-variants.{Propagate, Position, Velocity, Direction, General, State, Scalar};
 use crate::layout::ALPHA;
 use crate::layout::GRAVITY;
 use crate::layout::SIGMA;
@@ -42,7 +39,11 @@ use drifters_eqf::filter::RANGE_REFUSAL;
 use drifters_eqf::filter::measured_direction;
 use drifters_eqf::filter::measured_position;
 use drifters_eqf::filter::measured_velocity;
+use drifters_kind::kind::Form;
+use drifters_kind::kind::Kind;
+use drifters_kind::kind::form_of;
 use drifters_matrix::math::matrix::all_finite;
+use drifters_matrix::math::shapes::Mat1x21;
 use drifters_matrix::math::shapes::Mat3x21;
 use drifters_real::math::real::is_finite;
 use drifters_symmetry::group::act_state;
@@ -51,21 +52,19 @@ use drifters_symmetry::lift::Input;
 // How many numbers a filter has.
 pub const FILTER_LENGTH: usize = ALPHA + 1;
 
-// How many numbers a state has: those before the covariance.
-pub const STATE_LENGTH: usize = SIGMA;
-
 // How many numbers a start takes: a state, a covariance, gravity.
 pub const START_LENGTH: usize = ALPHA;
 
-// What is done to a filter: a propagation, an update by three measured numbers, or nothing, where its estimate is asked.
+// What is done to a filter: a propagation, an update by one or by three measured numbers, or nothing, where its estimate is asked.
 pub enum Action {
     Propagate,
+    Update1,
     Update3,
     Estimate,
 }
 
 // What a call asks of a filter. An enum of the language holds no array, so what is measured, and where its noise begins in the call's numbers,
-// stand beside it; they count in an update only.
+// stand beside it; they count in an update by three numbers only.
 pub struct Asked {
     pub action: Action,
     pub measurement: Measurement3,
@@ -85,6 +84,7 @@ pub fn call(kind: Kind, run: &mut [f64], numbers: &[f64], written: &mut [f64]) -
     let action = asked.action;
     match action {
         Action::Propagate => propagate_by(numbers, run),
+        Action::Update1 => update_scalar_by(numbers, run[ALPHA], run),
         Action::Update3 => update_by(asked.measurement, numbers, asked.noise, run[ALPHA], run),
         Action::Estimate => write_estimate(run, written),
     }
@@ -123,6 +123,13 @@ pub fn update(run: &mut [f64], numbers: &[f64]) -> Answer
     ensures { λ r. ⌜ outcome r (now (run .exit)) [] ≡ call General (now (run .entry)) (now (numbers .entry)) [] ⌝ }
 {
     filter_call(Kind::General, run, numbers)
+}
+
+// The update by one measured number: output row 21, innovation, variance.
+pub fn update_scalar(run: &mut [f64], numbers: &[f64]) -> Answer
+    ensures { λ r. ⌜ outcome r (now (run .exit)) [] ≡ call Scalar (now (run .entry)) (now (numbers .entry)) [] ⌝ }
+{
+    filter_call(Kind::Scalar, run, numbers)
 }
 
 // The estimate, its 33 numbers into `written`: `call` at `State`, on a filter that is lent to be read only.
@@ -197,6 +204,7 @@ fn asked_by(kind: Kind, run: &[f64], numbers: &[f64]) -> Asked
         Kind::Direction => measured(direction(run, numbers), 6),
         Kind::General => measured(general(numbers), 66),
         Kind::State => unmeasured(Action::Estimate),
+        Kind::Scalar => unmeasured(Action::Update1),
     }
 }
 
@@ -211,7 +219,7 @@ fn measured(measurement: Measurement3, noise: usize) -> Asked
     }
 }
 
-// An action that measures nothing.
+// An action that needs nothing beside it: what it reads stands at fixed places of the call's numbers.
 fn unmeasured(action: Action) -> Asked
     ensures { λ r. ⌜ r .action ≡ action ⌝ }
 {
@@ -237,6 +245,18 @@ fn propagate_by(numbers: &[f64], run: &mut [f64]) -> Answer
     };
     let q = process_noise_at(numbers, 7);
     write_filter(from_run(run).propagate(u, numbers[6], q), run)
+}
+
+// The update of a filter by one measured number, with alpha.
+fn update_scalar_by(numbers: &[f64], alpha: f64, run: &mut [f64]) -> Answer
+    requires { ⌜ (length (now numbers) ≡ callLength Scalar) × (length (now run) ≡ filterLength) ⌝ }
+    ensures { λ r. ⌜ outcome r (now (run .exit)) [] ≡ rangeChecked (performed (measurement 1 (record { output = part (now (numbers .entry)) 0 21; innovation = part (now (numbers .entry)) 21 1 }) (part (now (numbers .entry)) 22 1) alpha) (fromRun (now (run .entry))) (now (run .entry)) []) (now (run .entry)) [] ⌝ }
+{
+    let c = output_row(numbers);
+    write_filter(
+        from_run(run).update_scalar(c, numbers[21], numbers[22], alpha),
+        run,
+    )
 }
 
 // The update of a filter by three measured numbers with their noise, nine numbers from `at` on, and alpha.
@@ -307,6 +327,16 @@ fn process_noise_at(numbers: &[f64], at: usize) -> ProcessNoise
         lever: vec3_at(numbers, at + 12),
         mag: vec3_at(numbers, at + 15),
     }
+}
+
+// The first 21 numbers, as an output row.
+fn output_row(numbers: &[f64]) -> Mat1x21
+    requires { ⌜ 21 ≤ length (now numbers) ⌝ }
+    ensures { λ r. ⌜ r .data ≡ part (now (numbers .entry)) 0 21 ⌝ }
+{
+    let mut data = [0.0; 21];
+    copy_part(numbers, 0, &mut data);
+    Mat1x21 { data }
 }
 
 // The first 63 numbers, as an output matrix.

@@ -1,4 +1,3 @@
 // The entries: the calls on a filter that is lent as a run of numbers.
 pub mod entry;
-pub mod kind;
 mod layout;

@@ -6,7 +6,7 @@ use lib.Ieee.{Float, binary64, le, ofBits}
 use Rattle.drifters_real.specs.Scalar.{_⊗_, half}
 use Rattle.drifters_real.specs.Real.{abs}
 use Rattle.drifters_matrix.specs.Matrix.{transpose, matmul, mulTranspose, scaled, symmetrize, addMatrix}
-use Rattle.drifters_cholesky.specs.Cholesky.{Factor, cholesky, solve}
+use Rattle.drifters_cholesky.specs.Cholesky.{Factor, definite, entriesOf, cholesky, solve}
 use Rattle.drifters_core.specs.Vec3.{toArray, norm, normalized, skew, subVec3, mulMat3Vec3}
 use Rattle.drifters_core.specs.declared.math.vec3.Vec3.{Vec3}
 use Rattle.drifters_eqf.specs.Answer.{turnRefusal, pivotRefusal}
@@ -14,7 +14,7 @@ use Rattle.drifters_symmetry.specs.Group.{compose, scaledAlgebra, fromArray21, 
 use Rattle.drifters_symmetry.specs.Lift.{lift}
 use Rattle.drifters_symmetry.specs.Linear.{stateMatrix, directionOutputMatrix, positionOutputMatrix, velocityOutputMatrix, transportedDirection, transportedPosition, transportedVelocity}
 use Rattle.drifters_covariance.specs.Covariance.{transition, processNoise, joseph, resetSigma}
-use Rattle.drifters_eqf.specs.Gcu.{definite, entriesOf, nis, inflate}
+use Rattle.drifters_gcu.specs.Gcu.{nis, inflate}
 use Rattle.drifters_symmetry.specs.declared.group.Symmetry.{Symmetry}
 use Rattle.drifters_symmetry.specs.declared.group.Algebra.{Algebra}
 use Rattle.drifters_symmetry.specs.declared.group.State.{State}
@@ -103,7 +103,7 @@ inflatedFactor w f c y noise alpha = cholesky w (inflate w y (projected w f c) n
 
 -- the 21 by w gain sigma cᵀ S⁻¹ for the inflated S, as the transpose of a solve (S is symmetric but for rounding): a solve rounds less than an inverse
 unfoldable pub gain : ℕ → EqFilter → List Float → List Float → List Float → Float → List Float
-gain w f c y noise alpha = transpose w 21 (solve w 21 (entriesOf (inflatedFactor w f c y noise alpha)) (matmul w 21 21 c (f .sigma .«data»)))
+gain w f c y noise alpha = transpose w 21 (solve w 21 (entriesOf w (inflatedFactor w f c y noise alpha)) (matmul w 21 21 c (f .sigma .«data»)))
 
 -- what an update of any width applies to the filter, for the gain k: k y, k c and k noise kᵀ
 pub record Correction : Type 0 where
@@ -145,7 +145,7 @@ unfoldable pub update : ℕ → EqFilter → List Float → List Float → List 
 update w f c y noise alpha =
     cond (definite (rawFactor w f c noise))
     (cond (definite (inflatedFactor w f c y noise alpha))
-    (applied f (nis w (entriesOf (rawFactor w f c noise)) y) (correction w (gain w f c y noise alpha) c y noise))
+    (applied f (nis w (entriesOf w (rawFactor w f c noise)) y) (correction w (gain w f c y noise alpha) c y noise))
     (refuse pivotRefusal f))
     (refuse pivotRefusal f)
 

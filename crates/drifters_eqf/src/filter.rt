@@ -1,10 +1,10 @@
 // Port of filter.rs: the filter, its propagation and its updates, by value. The group acts from the right: a propagation composes on the
 // right, the correction of an update on the left. The lines of the covariance are in drifters_covariance.
+ghost use mathlib.Core.List.{[], _∷_};
 ghost use mathlib.Core.Path.{_≡_};
 ghost use Rattle.drifters_core.specs.Vec3.{toArray};
-ghost use Rattle.drifters_eqf.specs.Filter.{turnFits, refuse, new, navState, propagate, applied, update, measurement3, measuredPosition, measuredVelocity, measuredDirection};
-use crate::gcu::inflate_at;
-use crate::gcu::nis;
+ghost use Rattle.drifters_eqf.specs.Filter.{turnFits, refuse, new, navState, propagate, applied, filterOf, update, measurement3, measuredPosition, measuredVelocity, measuredDirection};
+use drifters_cholesky::math::cholesky::Cholesky1;
 use drifters_cholesky::math::cholesky::Cholesky3;
 use drifters_core::math::vec3::Vec3;
 use drifters_core::math::vec3::from_vec3;
@@ -15,9 +15,16 @@ use drifters_covariance::covariance::joseph;
 use drifters_covariance::covariance::process_noise;
 use drifters_covariance::covariance::reset;
 use drifters_covariance::covariance::transition;
+use drifters_gcu::gcu::inflate_at1;
+use drifters_gcu::gcu::inflate_at3;
+use drifters_gcu::gcu::nis1;
+use drifters_gcu::gcu::nis3;
 use drifters_matrix::math::in_place::add_scaled21;
+use drifters_matrix::math::in_place::matmul1x21;
 use drifters_matrix::math::in_place::matmul3x21;
 use drifters_matrix::math::in_place::symmetrize21;
+use drifters_matrix::math::shapes::Mat1;
+use drifters_matrix::math::shapes::Mat1x21;
 use drifters_matrix::math::shapes::Mat3;
 use drifters_matrix::math::shapes::Mat3x21;
 use drifters_matrix::math::shapes::Mat21;
@@ -150,8 +157,8 @@ impl EqFilter {
         if !raw.definite {
             return refuse(PIVOT_REFUSAL, self);
         }
-        let r = nis(raw.factor, y);
-        let chol = Cholesky3::new(inflate_at(r, y, projected, noise, alpha));
+        let r = nis3(raw.factor, y);
+        let chol = Cholesky3::new(inflate_at3(r, y, projected, noise, alpha));
         if !chol.definite {
             return refuse(PIVOT_REFUSAL, self);
         }
@@ -160,38 +167,97 @@ impl EqFilter {
         let kc = gain.matmul21(c);
         let share = gain.matmul3(noise).mul_transpose(gain);
         let delta = column.data;
-        self.apply(r, delta, &kc.data, &share.data)
+        apply(
+            self.x,
+            &self.sigma.data,
+            self.gravity,
+            self.alpha,
+            r,
+            delta,
+            &kc.data,
+            &share.data,
+        )
     }
 
-    // A correction applied, with r for an answer: composed on the left, then the Joseph form and the reset, since the error is measured from
-    // the new estimate afterwards. No width enters, so that updates of every width share it.
-    fn apply(self, r: f64, delta: [f64; 21], kc: &[f64; 441], noise: &[f64; 441]) -> Answered
-        ensures { λ a. ⌜ a ≡ applied self r (record { delta = delta; kc = now (kc .entry); noise = now (noise .entry) }) ⌝ }
+    // The update by one measured number with its variance: `update` at width one, step for step. What the two widths share is code over the
+    // width; a quotient by the variance of the innovation would round otherwise than the two substitutions.
+    pub fn update_scalar(self, c: Mat1x21, innovation: f64, variance: f64, alpha: f64) -> Answered
+        ensures { λ r. ⌜ r ≡ update 1 self (c .data) (innovation ∷ []) (variance ∷ []) alpha ⌝ }
     {
-        let gravity = self.gravity;
-        let alpha = self.alpha;
-        // Copied so that `self` is not lent: the compiler then drops a copy of the whole filter.
-        let prior = self.sigma;
-        let step = Algebra::from_array(delta);
-        if !turn_fits(step) {
-            return refuse(TURN_REFUSAL, self);
+        let y = Mat1 { data: [innovation] };
+        let noise = Mat1 { data: [variance] };
+        let mut product = [0.0; 21];
+        matmul1x21(&c.data, &self.sigma.data, &mut product);
+        let c_sigma = Mat1x21 { data: product };
+        let projected = c_sigma.mul_transpose(c);
+        let raw = Cholesky1::new(projected.add(noise));
+        if !raw.definite {
+            return refuse(PIVOT_REFUSAL, self);
         }
-        let change = Symmetry::exp(step);
-        let x = change.compose(self.x);
-        let corrected = joseph(&prior.data, kc, noise);
-        let mut out = [0.0; 441];
-        reset(step, &corrected.data, &mut out);
-        symmetrize21(&mut out);
-        let sigma = Mat21 { data: out };
-        Answered {
-            answer: Answer::Nis(r),
-            filter: EqFilter {
-                x,
-                sigma,
-                gravity,
-                alpha,
-            },
+        let r = nis1(raw.factor, y);
+        let chol = Cholesky1::new(inflate_at1(r, y, projected, noise, alpha));
+        if !chol.definite {
+            return refuse(PIVOT_REFUSAL, self);
         }
+        let gain = chol.factor.solve(c_sigma).transpose();
+        let column = gain.matmul1(y);
+        let kc = gain.matmul21(c);
+        let share = gain.matmul1(noise).mul_transpose(gain);
+        let delta = column.data;
+        apply(
+            self.x,
+            &self.sigma.data,
+            self.gravity,
+            self.alpha,
+            r,
+            delta,
+            &kc.data,
+            &share.data,
+        )
+    }
+}
+
+// A correction applied to the parts of a filter, with r for an answer: composed on the left, then the Joseph form and the reset, since the
+// error is measured from the new estimate afterwards. No width enters, so that updates of every width share it; the covariance is lent, since
+// the compiler would copy a whole filter for each caller.
+fn apply(
+    x: Symmetry,
+    sigma: &[f64; 441],
+    gravity: Vec3,
+    alpha: f64,
+    r: f64,
+    delta: [f64; 21],
+    kc: &[f64; 441],
+    noise: &[f64; 441],
+) -> Answered
+    ensures { λ a. ⌜ a ≡ applied (filterOf x (now (sigma .entry)) gravity alpha) r (record { delta = delta; kc = now (kc .entry); noise = now (noise .entry) }) ⌝ }
+{
+    let step = Algebra::from_array(delta);
+    if !turn_fits(step) {
+        let entries = *sigma;
+        return refuse(TURN_REFUSAL, filter_of(x, entries, gravity, alpha));
+    }
+    let change = Symmetry::exp(step);
+    let corrected = joseph(sigma, kc, noise);
+    let mut out = [0.0; 441];
+    reset(step, &corrected.data, &mut out);
+    symmetrize21(&mut out);
+    Answered {
+        answer: Answer::Nis(r),
+        filter: filter_of(change.compose(x), out, gravity, alpha),
+    }
+}
+
+// A filter of its parts.
+fn filter_of(x: Symmetry, entries: [f64; 441], gravity: Vec3, alpha: f64) -> EqFilter
+    ensures { λ r. ⌜ r ≡ filterOf x entries gravity alpha ⌝ }
+{
+    let sigma = Mat21 { data: entries };
+    EqFilter {
+        x,
+        sigma,
+        gravity,
+        alpha,
     }
 }
 

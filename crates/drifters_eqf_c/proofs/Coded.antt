@@ -10,7 +10,7 @@ use Rattle.drifters_real.specs.Real.{sin, cos}
 use Rattle.drifters_eqf.specs.Answer.{lengthRefusal, numberOf}
 use Rattle.drifters_entry.specs.Entry.{Outcome, outcome, call}
 use Rattle.drifters_eqf.specs.declared.filter.Answer.{Answer}
-use Rattle.drifters_entry.specs.declared.kind.Kind.{Kind}
+use Rattle.drifters_kind.specs.declared.kind.Kind.{Kind}
 use Rattle.call_sheet.specs.Text.{Printed, printed, printInto}
 use Rattle.call_sheet.specs.declared.sheet.Filled.{Filled}
 use Rattle.drifters_eqf_c.specs.Exports.{resultLength, sinCosLength, coded, codedOutcome, nisAfter, codedUpdate, codedSinCos, codedText, codedPrinted, codedSheet}

@@ -10,7 +10,7 @@ use Rattle.drifters_eqf.specs.Answer.{lengthRefusal, numberOf}
 use Rattle.drifters_entry.specs.Entry.{Outcome, call}
 use Rattle.drifters_eqf.specs.declared.filter.Answer.{Answer}
 use Rattle.drifters_eqf.specs.declared.filter.Answer.the-variants.{Nis, Fine, Refused}
-use Rattle.drifters_entry.specs.declared.kind.Kind.{Kind}
+use Rattle.drifters_kind.specs.declared.kind.Kind.{Kind}
 use Rattle.call_sheet.specs.Text.{Printed, printInto}
 use Rattle.call_sheet.specs.declared.sheet.Filled.{Filled}
 use Rattle.call_sheet.specs.declared.sheet.Filled.the-variants as filled

@@ -6,7 +6,7 @@ ghost use lib.ListN.{length};
 ghost use Rattle.drifters_real.specs.Real.{sqrt};
 ghost use Rattle.drifters_eqf.specs.Answer.{numberOf};
 ghost use Rattle.drifters_entry.specs.Entry.{call, start};
-ghost use Rattle.drifters_entry.specs.declared.kind.Kind.the-variants.{Propagate, Position, Velocity, Direction, General, State};
+ghost use Rattle.drifters_kind.specs.declared.kind.Kind.the-variants.{Propagate, Position, Velocity, Direction, General, State, Scalar};
 ghost use Rattle.drifters_eqf_c.specs.Exports.{resultLength, coded, codedOutcome, nisAfter, codedUpdate, codedSinCos, codedText, codedSheet};
 use call_sheet::run::run_sheet;
 use call_sheet::sheet::Filled;
@@ -16,6 +16,7 @@ use drifters_entry::entry::start;
 use drifters_entry::entry::update;
 use drifters_entry::entry::update_direction;
 use drifters_entry::entry::update_position;
+use drifters_entry::entry::update_scalar;
 use drifters_entry::entry::update_velocity;
 use drifters_eqf::filter::Answer;
 use drifters_eqf::filter::LENGTH_REFUSAL;
@@ -97,6 +98,21 @@ pub extern "C" fn drifters_update(filter: &mut [f64], numbers: &[f64], nis: &mut
         return LENGTH_REFUSAL;
     }
     give_nis(update(filter, numbers), nis)
+}
+
+// The update by one measured number: output row 21, innovation, variance.
+#[no_mangle]
+pub extern "C" fn drifters_update_scalar(
+    filter: &mut [f64],
+    numbers: &[f64],
+    nis: &mut [f64],
+) -> u32
+    ensures { λ r. ⌜ coded r (now (filter .exit)) (now (nis .exit)) ≡ codedUpdate Scalar (now (filter .entry)) (now (numbers .entry)) (now (nis .entry)) ⌝ }
+{
+    if nis.len() != RESULT_LENGTH {
+        return LENGTH_REFUSAL;
+    }
+    give_nis(update_scalar(filter, numbers), nis)
 }
 
 // The estimate, its 33 numbers into `state`.

@@ -3,16 +3,15 @@
 ghost use mathlib.Core.Path.{_≡_};
 ghost use Rattle.drifters_core.specs.Vec3.{fromArray, toArray, normalized, amaxVec3};
 ghost use Rattle.drifters_matrix.specs.Matrix.{matmul, mulTranspose, fromDiagonal, symmetrize, amax};
-ghost use Rattle.drifters_cholesky.specs.Cholesky.{solve};
-ghost use Rattle.drifters_cholesky.specs.Cholesky.{factored3};
+ghost use Rattle.drifters_cholesky.specs.Cholesky.{definite, entriesOf, cholesky, solve};
 ghost use Rattle.drifters_quat.specs.Quat.{fromRotationVector, toDcm};
 ghost use Rattle.drifters_lie.specs.Lie.{fromArraySe3, leftJacobian};
 ghost use Rattle.drifters_adjoint.specs.Adjoint.{integratedAdjoint};
-ghost use Rattle.drifters_eqf.specs.Gcu.{beta};
+ghost use Rattle.drifters_gcu.specs.Gcu.{beta};
 use drifters_adjoint::adjoint::integrated_adjoint;
 use drifters_cholesky::math::cholesky::Cholesky3;
 use drifters_core::math::vec3::Vec3;
-use drifters_eqf::gcu::beta;
+use drifters_gcu::gcu::beta;
 use drifters_lie::lie::Se3Tangent;
 use drifters_lie::lie::left_jacobian;
 use drifters_matrix::math::in_place::matmul3x21;
@@ -219,7 +218,7 @@ pub extern "C" fn drifters_amax21(m: &[f64; 441]) -> f64
 // Whether `a` is positive definite; its lower factor, or zeros, into `lower`.
 #[no_mangle]
 pub extern "C" fn drifters_cholesky3(a: &[f64; 9], lower: &mut [f64; 9]) -> bool
-    ensures { λ r. ⌜ (r ≡ factored3 (now (a .entry)) .definite) × (now (lower .exit) ≡ factored3 (now (a .entry)) .factor .lower .data) ⌝ }
+    ensures { λ r. ⌜ (r ≡ definite (cholesky 3 (now (a .entry)))) × (now (lower .exit) ≡ entriesOf 3 (cholesky 3 (now (a .entry)))) ⌝ }
 {
     let x = *a;
     let f = Cholesky3::new(Mat3 { data: x });

@@ -1,17 +1,17 @@
 // The calls of a sheet, made in turn and compared with the original's stored answers.
 ghost use Prim.Native.Nat.{_+_, _≤_};
 ghost use lib.ListN.{length};
-ghost use Rattle.drifters_entry.specs.Kind.{mostCallNumbers};
+ghost use Rattle.drifters_kind.specs.Kind.{mostCallNumbers};
 use crate::files::read_named;
 use call_sheet::sheet::Filled;
 use call_sheet::sheet::MOST_BYTES;
 use call_sheet::sheet::MOST_CALLS;
 use call_sheet::sheet::read_sheet;
 use drifters_entry::entry::FILTER_LENGTH;
-use drifters_entry::kind::FoundKind;
-use drifters_entry::kind::MOST_CALL_NUMBERS;
-use drifters_entry::kind::call_length;
-use drifters_entry::kind::kind_of;
+use drifters_kind::kind::FoundKind;
+use drifters_kind::kind::MOST_CALL_NUMBERS;
+use drifters_kind::kind::call_length;
+use drifters_kind::kind::kind_of;
 use little_endian::bits::numbers_of;
 use replay_lists::call_digest::ANSWER_BYTES;
 use replay_lists::calls::run_call;

@@ -20,11 +20,11 @@ fn replay_calls() -> Tally {
     );
     let t = replay(
         t,
-        b"general zeros unsymmetric indefinite wild huge_state huge_sigma huge_e huge_nis blank ",
+        b"general scalar zeros unsymmetric indefinite wild huge_state huge_sigma huge_e huge_nis blank ",
     );
     replay(
         t,
-        b"limit_update limit_full limit_full_e limit_half limit_half_e ",
+        b"limit_update limit_scalar limit_full limit_full_e limit_half limit_half_e ",
     )
 }
 
@@ -32,6 +32,10 @@ fn print_limits() {
     print_sheet(
         b"a turn above 8, then of 8: update, attitude and E",
         b"limit_update.sheet",
+    );
+    print_sheet(
+        b"the same: scalar update, attitude and E",
+        b"limit_scalar.sheet",
     );
     print_sheet(b"the same: full step", b"limit_full.sheet");
     print_sheet(b"the same: full step, E", b"limit_full_e.sheet");

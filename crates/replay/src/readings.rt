@@ -1,19 +1,19 @@
 // Readings that are run, not proved: the lengths of the runs, and the text of sheets.
 ghost use mathlib.Core.Path.{_≡_};
 ghost use Prim.Native.Nat.{_+_, _≤_};
-ghost use Rattle.drifters_entry.specs.Kind.{callLength};
+ghost use Rattle.drifters_kind.specs.Kind.{callLength};
 use crate::calls::sheet_room;
 use call_sheet::run::MOST_TEXT;
 use call_sheet::run::sheet_text;
 use drifters_entry::entry;
 use drifters_entry::entry::FILTER_LENGTH;
 use drifters_entry::entry::START_LENGTH;
-use drifters_entry::entry::STATE_LENGTH;
-use drifters_entry::kind::Kind;
-use drifters_entry::kind::MOST_CALL_NUMBERS;
-use drifters_entry::kind::call_length;
 use drifters_eqf::filter::Answer;
 use drifters_eqf::filter::LENGTH_REFUSAL;
+use drifters_kind::kind::Kind;
+use drifters_kind::kind::MOST_CALL_NUMBERS;
+use drifters_kind::kind::STATE_LENGTH;
+use drifters_kind::kind::call_length;
 use libc::STDOUT_FILENO;
 use replay_lists::tally::unread;
 use sheet_file::read_file;
@@ -40,16 +40,17 @@ fn one_more(kind: Kind) -> usize
     call_length(kind) + 1
 }
 
-// How many of a propagation and a general update are refused by length. Each has `less` numbers fewer than one too many: 1 gives the stated
-// length.
+// How many of a propagation, a general update and a scalar update are refused by length. Each has `less` numbers fewer than one too many: 1
+// gives the stated length.
 fn refused_calls(run: &mut [f64], less: usize) -> u64
     requires { ⌜ less ≤ 2 ⌝ }
-    ensures { λ r. ⌜ r ≤ 2 ⌝ }
+    ensures { λ r. ⌜ r ≤ 3 ⌝ }
 {
     let numbers = zeros();
     let a = by_length(entry::propagate(run, &numbers[..one_more(Kind::Propagate) - less]));
     let b = by_length(entry::update(run, &numbers[..one_more(Kind::General) - less]));
-    a + b
+    let c = by_length(entry::update_scalar(run, &numbers[..one_more(Kind::Scalar) - less]));
+    a + b + c
 }
 
 // The same of a position, a velocity and a direction.
@@ -76,7 +77,7 @@ fn refused_others(run: &mut [f64], less: usize) -> u64
     a + b
 }
 
-// Prints how many of the seven entries are refused by length.
+// Prints how many of the eight entries are refused by length.
 fn refused(name: &[u8], run: &mut [f64], less: usize)
     requires { ⌜ less ≤ 2 ⌝ }
 {
@@ -84,7 +85,7 @@ fn refused(name: &[u8], run: &mut [f64], less: usize)
     io::write_all(STDOUT_FILENO, name);
     io::write_all(STDOUT_FILENO, b": ");
     io::print_decimal(STDOUT_FILENO, n);
-    io::write_all(STDOUT_FILENO, b" of 7 entries refused 1\n");
+    io::write_all(STDOUT_FILENO, b" of 8 entries refused 1\n");
 }
 
 // Runs one number shorter and one longer than stated, and as stated.

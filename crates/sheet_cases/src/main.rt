@@ -27,8 +27,13 @@ const BODY: usize = 4 + 8 * 2 + FILTER_BYTES;
 // Where a position call ends there: it has 12 numbers.
 const END: usize = BODY + 8 * 12;
 
-// A number that no kind has: the highest there is.
-const NO_KIND: u32 = 4294967295;
+// Where a scalar update ends there: it has 23 numbers.
+const SCALAR_END: usize = BODY + 8 * 23;
+
+// Numbers that no kind has: the first after the kinds, and the highest there is.
+const NO_KIND: u32 = 8;
+
+const HIGHEST: u32 = 4294967295;
 
 // What a sheet is, and its text.
 fn report(name: &[u8], sheet: &[u8]) {
@@ -137,7 +142,9 @@ fn one_calls() {
     one_call(b"a byte too many", 2, BODY, END + 1);
     one_call(b"a byte too few", 2, BODY, END - 1);
     one_call(b"a state call", 6, BODY, BODY);
-    one_call(b"a number of no kind", NO_KIND, BODY, END);
+    one_call(b"a scalar update", 7, BODY, SCALAR_END);
+    one_call(b"the first number of no kind", NO_KIND, BODY, SCALAR_END);
+    one_call(b"the highest number", HIGHEST, BODY, END);
     one_call(b"a second filter", 0, BODY, BODY + FILTER_BYTES);
 }
 

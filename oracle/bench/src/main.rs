@@ -10,17 +10,20 @@ use rows::{Row, Side};
 
 /// The goal for a propagation and an update: the port's time over the original's.
 const GOAL: f64 = 0.7;
+/// The goal for a scalar update: its time over that of the general update, both the port's.
+const SCALAR_GOAL: f64 = 0.75;
 
 fn measure() {
     println!("| call | port, us | original, us | ratio | instructions, port | original | ratio | stack in bytes, port | original |");
     println!("|---|---|---|---|---|---|---|---|---|");
-    let mut above = Vec::new();
+    let (mut above, mut times) = (Vec::new(), Vec::new());
     for Row { name, mut port, mut original } in rows::all() {
         let (time_port, time_original) = time::medians(&mut port, &mut original);
         let ratio = time_port / time_original;
         if ratio > GOAL && (name == "propagate" || name.starts_with("update")) {
             above.push(name);
         }
+        times.push((name, time_port));
         let stack = [stack::peak(port), stack::peak(original)];
         let instructions = match (count::instructions(name, Side::Port), count::instructions(name, Side::Original)) {
             (Some(port), Some(original)) => format!("{port:.0} | {original:.0} | {:.2}", port / original),
@@ -30,6 +33,10 @@ fn measure() {
     }
     for name in above {
         println!("above {GOAL}: {name}");
+    }
+    let general = times.iter().find(|(name, _)| *name == "update").expect("the general update").1;
+    for (name, time) in times.iter().filter(|(name, _)| name.starts_with("update_scalar")) {
+        println!("{name}: {:.2} of the port's update, goal {SCALAR_GOAL}", time / general);
     }
 }
 

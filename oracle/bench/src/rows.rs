@@ -1,8 +1,9 @@
 //! What is measured: each call on both sides, and a sheet of 255.
 use drifters_eqf::filter::EqFilter;
 use drifters_eqf::group::State;
+use drifters_eqf::linear::DIM;
 use inputs::{sheet, Flight};
-use original::places::{FILTER, STATE};
+use original::places::{FILTER, GENERAL_NOISE, INNOVATION, STATE};
 use original::{filter_of, plain_sheet, Answer, Call};
 use std::hint::black_box;
 
@@ -37,8 +38,17 @@ const CALLS: usize = 255;
 /// How long the port's text may be.
 const MOST_TEXT: usize = 5865;
 
-const NAMES: [(u32, &str); 6] =
-    [(1, "propagate"), (2, "update_position"), (3, "update_velocity"), (4, "update_direction"), (5, "update"), (6, "nav_state")];
+const NAMES: [(u32, &str); 7] = [
+    (1, "propagate"),
+    (2, "update_position"),
+    (3, "update_velocity"),
+    (4, "update_direction"),
+    (5, "update"),
+    (6, "nav_state"),
+    (7, "update_scalar"),
+];
+/// A scalar update whose row has no zeros, as the rows of the general update have none.
+const DENSE: &str = "update_scalar, dense row";
 
 /// A flight after some hundred calls, and its filter's run.
 fn flight() -> (Flight, [f64; FILTER]) {
@@ -111,13 +121,21 @@ fn sheet_row(mut flight: Flight, run: [f64; FILTER]) -> Row {
     }
 }
 
+/// The first of the three numbers that a general update measures, as a scalar update.
+fn first_of(general: &[f64]) -> Vec<f64> {
+    [&general[..DIM], &[general[INNOVATION], general[GENERAL_NOISE]]].concat()
+}
+
 pub fn all() -> Vec<Row> {
     let (mut flight, run) = flight();
-    let row = |(kind, name)| {
-        let numbers: Vec<f64> = flight.call(kind);
-        Row { name, original: of_original(kind, filter_of(&run), &numbers), port: of_port(kind, run, numbers) }
+    let mut calls: Vec<_> = NAMES.into_iter().map(|(kind, name)| (kind, name, flight.call(kind))).collect();
+    calls.push((7, DENSE, first_of(&flight.call(5))));
+    let row = |(kind, name, numbers): (u32, _, Vec<f64>)| Row {
+        name,
+        original: of_original(kind, filter_of(&run), &numbers),
+        port: of_port(kind, run, numbers),
     };
-    let mut rows: Vec<Row> = NAMES.into_iter().map(row).collect();
+    let mut rows: Vec<Row> = calls.into_iter().map(row).collect();
     rows.push(sheet_row(flight, run));
     rows
 }

@@ -1,27 +1,33 @@
-//! The seven calls on the port and on the original: the answer, and every lent number afterwards.
+//! The calls on the port and on the original: the answer, and every lent number afterwards.
 use crate::in_threads;
 use crate::lent::{Lent, START};
 use inputs::{log, start, Flight, Manner, Numbers};
 use original::places::FILTER;
-use original::{filter_of, Call};
+use original::{filter_of, is_update, Call};
 
 /// How many flights, and how many calls each has.
 const FLIGHTS: u64 = 150;
 const FLIGHT_CALLS: usize = 4000;
 /// How many logs of other manners, and how many calls one has at most.
-const LOGS: u64 = 120_000;
+const LOGS: u64 = 160_000;
 const LOG_CALLS: usize = 24;
 
-const KINDS: [&str; 7] = ["propagate", "update_position", "update_velocity", "update_direction", "update", "nav_state", "start"];
+/// The names of the kinds in their order, and of a start.
+const NAMES: [&str; START as usize] =
+    ["propagate", "update_position", "update_velocity", "update_direction", "update", "nav_state", "update_scalar", "start"];
 
-/// How often each kind gave each answer: accepted, or refused 1 to 5; how often a NIS was below 0; how often the inflated matrix alone had no factor.
+const ANSWERS: [&str; 7] = ["accepted", "refused 1", "2", "3", "4 raw", "4 infl.", "5"];
+
+/// How often each kind gave each answer, and how many calls differ; how often a NIS was below 0; how many updates of three numbers were made by the
+/// reading of `update` over the width too, and how many of them it made otherwise than the original.
 #[derive(Default)]
 struct Tally {
     seed: u64,
-    answers: [[u64; 6]; 7],
-    negative: u64,
-    inflated: u64,
+    answers: [[u64; ANSWERS.len()]; NAMES.len()],
     differ: u64,
+    negative: u64,
+    read: u64,
+    misread: u64,
 }
 
 impl Tally {
@@ -29,33 +35,38 @@ impl Tally {
         for (row, other) in self.answers.as_flattened_mut().iter_mut().zip(other.answers.as_flattened()) {
             *row += other;
         }
-        self.negative += other.negative;
-        self.inflated += other.inflated;
         self.differ += other.differ;
+        self.negative += other.negative;
+        self.read += other.read;
+        self.misread += other.misread;
     }
 
     fn print(&self, title: &str) {
-        println!("{title:<18} {:>9} {:>9} {:>9} {:>9} {:>9} {:>9}", "accepted", "refused 1", "2", "3", "4", "5");
-        for (name, row) in KINDS.iter().zip(self.answers) {
+        println!("{title:<18} {}", ANSWERS.map(|answer| format!("{answer:>9}")).join(" "));
+        for (name, row) in NAMES.iter().zip(self.answers) {
             println!("{name:<18} {}", row.map(|count| format!("{count:>9}")).join(" "));
         }
         let calls: u64 = self.answers.as_flattened().iter().sum();
-        println!(
-            "{calls} calls, {} with a NIS below 0, {} refused 4 by the inflated matrix; {} differ",
-            self.negative, self.inflated, self.differ
-        );
+        println!("{calls} calls, {} with a NIS below 0; {} differ", self.negative, self.differ);
+        println!("{} updates of three numbers by the reading over the width; {} differ", self.read, self.misread);
     }
 
     /// Makes a call on both sides and compares. Gives the filter's run as the port leaves it.
     fn compare(&mut self, kind: u32, lent: Lent) -> Vec<f64> {
         let (mut ours, mut theirs) = (lent.clone(), lent.clone());
         let (code, expected) = (ours.on_port(kind), theirs.on_original(kind));
-        self.answers[kind as usize - 1][expected as usize] += 1;
-        if (2..=5).contains(&kind) && expected == 0 && theirs.result[0] < 0.0 {
+        let column = match expected {
+            4 if Call::read(kind, &lent.numbers).has_raw_factor(&filter_of(&lent.run)) => 5,
+            5 => 6,
+            _ => expected as usize,
+        };
+        self.answers[kind as usize - 1][column] += 1;
+        if is_update(kind) && expected == 0 && theirs.result[0] < 0.0 {
             self.negative += 1;
         }
-        if expected == 4 && Call::read(kind, &lent.numbers).has_raw_factor(&filter_of(&lent.run)) {
-            self.inflated += 1;
+        if (2..=5).contains(&kind) && expected != 1 {
+            self.read += 1;
+            self.misread += u64::from(!Call::read(kind, &lent.numbers).is_read_alike(&filter_of(&lent.run)));
         }
         if code != expected || !ours.same(&theirs) {
             self.differ += 1;
@@ -105,7 +116,7 @@ fn other_length(n: &mut Numbers, kind: u32, lent: &mut Lent) {
     let run = match n.below(3) {
         0 => &mut lent.run,
         1 if kind != 6 => &mut lent.numbers,
-        _ if (2..=6).contains(&kind) => &mut lent.result,
+        _ if !lent.result.is_empty() => &mut lent.result,
         _ => &mut lent.run,
     };
     let length = n.one_of(&[0, run.len() - 1, run.len() + 1, 2 * run.len()]);
@@ -124,7 +135,7 @@ fn compare_seeds(title: &str, seeds: u64, one: fn(&mut Tally, u64)) -> u64 {
     let mut all = Tally::default();
     tallies.iter().for_each(|tally| all.add(tally));
     all.print(title);
-    all.differ
+    all.differ + all.misread
 }
 
 pub fn compare() -> u64 {

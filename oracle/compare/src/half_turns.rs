@@ -3,9 +3,9 @@ use crate::in_threads;
 use crate::lent::Lent;
 use drifters_eqf::linear::DIM;
 use inputs::{log, Manner, Numbers};
-use original::places::{ALPHA, E, GAMMA, GENERAL_NOISE, GRAVITY, INNOVATION, SIGMA, VELOCITY};
+use original::places::{ALPHA, E, GAMMA, GENERAL_NOISE, GRAVITY, INNOVATION, SCALAR_INNOVATION, SIGMA, VELOCITY};
 
-const LOGS: u64 = 24_000;
+const LOGS: u64 = 32_000;
 const LOG_CALLS: usize = 24;
 
 type Signs = [f64; 3];
@@ -51,6 +51,7 @@ fn turned_call(s: &Signs, kind: u32, numbers: &[f64]) -> Vec<f64> {
             turn_both(s, DIM, &mut turned[..INNOVATION]);
             turn_rows(s, 1, &mut turned[INNOVATION..GENERAL_NOISE]);
         }
+        7 => turn_rows(s, 1, &mut turned[..SCALAR_INNOVATION]),
         _ => {}
     }
     if (2..=5).contains(&kind) {
@@ -74,11 +75,24 @@ fn equal(x: &[f64], y: &[f64]) -> bool {
     x.len() == y.len() && x.iter().zip(y).all(|(x, y)| x == y || x.is_nan() && y.is_nan())
 }
 
-/// How many calls of a log were made, and how many differ from the turned log's.
-fn compare_log(seed: u64, s: &Signs) -> (u64, u64) {
+/// How many calls of logs were made, how many of them are scalar updates, and how many differ from the turned logs'.
+#[derive(Default)]
+struct Tally {
+    calls: u64,
+    scalars: u64,
+    differ: u64,
+}
+
+impl Tally {
+    fn add(self, other: Self) -> Self {
+        Self { calls: self.calls + other.calls, scalars: self.scalars + other.scalars, differ: self.differ + other.differ }
+    }
+}
+
+fn compare_log(seed: u64, s: &Signs) -> Tally {
     let log = log(&mut Numbers::new(seed), Manner::of(seed), LOG_CALLS);
     let (mut run, mut turned_run) = (log.run.clone(), turned_filter(s, &log.run));
-    let mut differ = 0;
+    let mut tally = Tally::default();
     for (kind, numbers) in &log.calls {
         let mut lent = Lent::new(*kind, &run, numbers);
         let mut turned = Lent::new(*kind, &turned_run, &turned_call(s, *kind, numbers));
@@ -86,19 +100,18 @@ fn compare_log(seed: u64, s: &Signs) -> (u64, u64) {
         let same = codes.0 == codes.1
             && equal(&turned_filter(s, &lent.run), &turned.run)
             && equal(&turned_result(s, *kind, &lent.result), &turned.result);
-        differ += u64::from(!same);
+        tally = tally.add(Tally { calls: 1, scalars: u64::from(*kind == 7), differ: u64::from(!same) });
         (run, turned_run) = (lent.run, turned.run);
     }
-    (log.calls.len() as u64, differ)
+    tally
 }
 
 pub fn compare() -> u64 {
     let mut wrong = 0;
     for (axis, signs) in ["first", "second", "third"].iter().zip(&TURNS) {
-        let counts =
-            in_threads(LOGS, |seeds| seeds.map(|seed| compare_log(seed, signs)).fold((0, 0), |sum, one| (sum.0 + one.0, sum.1 + one.1)));
-        let (calls, differ) = counts.iter().fold((0, 0), |sum, one| (sum.0 + one.0, sum.1 + one.1));
-        println!("half turn about the {axis} axis: {LOGS} logs, {calls} calls, {differ} differ");
+        let tallies = in_threads(LOGS, |seeds| seeds.map(|seed| compare_log(seed, signs)).fold(Tally::default(), Tally::add));
+        let Tally { calls, scalars, differ } = tallies.into_iter().fold(Tally::default(), Tally::add);
+        println!("half turn about the {axis} axis: {LOGS} logs, {calls} calls, {scalars} of them scalar updates; {differ} differ");
         wrong += differ;
     }
     wrong

@@ -1,9 +1,9 @@
 //! A call with all its lent runs, made on either side.
 use original::places::STATE;
-use original::Answer;
+use original::{is_update, Answer, LAST_KIND};
 
-/// The number that stands for a start beside the kinds 1 to 6.
-pub const START: u32 = 7;
+/// The number that stands for a start beside the kinds of call.
+pub const START: u32 = LAST_KIND + 1;
 
 /// What is lent to a call: the filter's run, the numbers, and the run of its result (a state, or one NIS).
 #[derive(Clone)]
@@ -31,7 +31,7 @@ impl Lent {
 
     /// Makes the call on the original. The run of a NIS is the port's own; refusal 1 is for every lent run.
     pub fn on_original(&mut self, kind: u32) -> u32 {
-        let update = (2..=5).contains(&kind);
+        let update = is_update(kind);
         if update && self.result.len() != result_length(kind) {
             return 1;
         }
@@ -62,7 +62,7 @@ fn same(x: &[f64], y: &[f64]) -> bool {
 /// How many numbers the run of a result has.
 pub fn result_length(kind: u32) -> usize {
     match kind {
-        2..=5 => 1,
+        _ if is_update(kind) => 1,
         6 => STATE,
         _ => 0,
     }

@@ -2,7 +2,7 @@
 use crate::in_threads;
 use inputs::{log, sheet, Manner, Numbers};
 use original::places::FILTER;
-use original::{call_length, run_sheet, REFUSED_SHEET};
+use original::{call_length, run_sheet, LAST_KIND, REFUSED_SHEET};
 
 const SHEETS: u64 = 6000;
 const SHEET_CALLS: usize = 120;
@@ -72,7 +72,7 @@ fn damage_table(tally: &mut Tally, bytes: &[u8]) {
     for place in (0..fields).map(|field| 4 * field) {
         let value = u32_at(bytes, place);
         let beside = [1, 4, 8, 256, 1 << 31].into_iter().flat_map(|d: u32| [value.wrapping_add(d), value.wrapping_sub(d)]);
-        for other in (0..=8).chain([256, 257, 65_532, 65_536, u32::MAX]).chain(beside) {
+        for other in (0..=LAST_KIND + 2).chain([256, 257, 65_532, 65_536, u32::MAX]).chain(beside) {
             let mut damaged = bytes.to_vec();
             put_u32(&mut damaged, place, other);
             tally.compare(&damaged);
@@ -97,8 +97,8 @@ fn damage_length(tally: &mut Tally, bytes: &[u8]) {
     }
 }
 
-/// A sheet with so many calls of each kind 1 to 6, all of zeros.
-fn sheet_of(counts: [usize; 6]) -> Vec<u8> {
+/// A sheet with so many calls of each kind, all of zeros.
+fn sheet_of(counts: [usize; LAST_KIND as usize]) -> Vec<u8> {
     let kinds = (1..).zip(counts).flat_map(|(kind, count)| std::iter::repeat_n(kind, count));
     let calls: Vec<_> = kinds.map(|kind| (kind, vec![0.0; call_length(kind)])).collect();
     sheet(&[0.0; FILTER], &calls)
@@ -106,10 +106,11 @@ fn sheet_of(counts: [usize; 6]) -> Vec<u8> {
 
 /// The limits of the layout: 256 and 257 entries, 65,532 bytes and more, no call, no byte.
 fn limits(tally: &mut Tally) {
-    let longest = sheet_of([26, 1, 3, 0, 90, 135]);
-    let too_long = sheet_of([24, 4, 4, 0, 90, 133]);
+    let longest = sheet_of([18, 1, 1, 0, 90, 135, 10]);
+    let too_long = sheet_of([16, 4, 2, 0, 90, 133, 10]);
     assert!(longest.len() == MOST_BYTES - 4 && too_long.len() == MOST_BYTES + 4);
-    for bytes in [longest, too_long, sheet_of([0, 0, 0, 0, 0, 255]), sheet_of([0, 0, 0, 0, 0, 256]), sheet_of([0; 6]), Vec::new()] {
+    let states = |count| sheet_of([0, 0, 0, 0, 0, count, 0]);
+    for bytes in [longest, too_long, states(255), states(256), states(0), Vec::new()] {
         tally.compare(&bytes);
         tally.compare(&[bytes.as_slice(), &[0; 4]].concat());
         tally.compare_lengths(&bytes);

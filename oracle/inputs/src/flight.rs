@@ -1,7 +1,7 @@
 //! A flight of a swinging camera mount: its true motion, and the calls that its sensors give.
 use crate::Numbers;
 use drifters_core::math::{Mat3, Quat, Vec3};
-use original::places::INNOVATION;
+use original::places::{INNOVATION, SCALAR, SCALAR_INNOVATION, VARIANCE};
 
 const DT: f64 = 0.01;
 const GRAVITY: Vec3 = Vec3::new(0.0, 0.0, 9.81);
@@ -9,6 +9,8 @@ const NORTH: Vec3 = Vec3::new(0.43, 0.02, 0.9);
 
 /// The variances of a start: attitude, velocity, position, both biases, lever, magnetometer.
 const START_VARIANCE: [f64; 7] = [1e-2, 1e-1, 1.0, 1e-4, 1e-2, 1e-1, 1e-2];
+/// The coordinate of the position along z.
+const POSITION_Z: usize = 8;
 /// The densities of the process noise.
 const DENSITY: [f64; 6] = [1e-6, 1e-4, 1e-10, 1e-8, 1e-10, 1e-10];
 
@@ -93,7 +95,7 @@ impl Flight {
         [v, 0.1 * v, 0.0, 0.1 * v, 1.2 * v, -0.05 * v, 0.0, -0.05 * v, 2.0 * v]
     }
 
-    /// The next call: 100 propagations a second, ten fixes of position and of velocity, twenty directions, states and a few general updates.
+    /// The next call: 100 propagations a second, fixes of position and of velocity, directions, heights, states and a few general updates.
     pub fn next_call(&mut self) -> (u32, Vec<f64>) {
         self.calls += 1;
         let kind = match self.calls % 30 {
@@ -102,6 +104,7 @@ impl Flight {
             1 | 9 | 14 | 19 | 24 | 28 => 4,
             20 if self.calls % 90 == 20 => 5,
             10 => 6,
+            12 | 27 => 7,
             _ => 1,
         };
         (kind, self.call(kind))
@@ -129,8 +132,20 @@ impl Flight {
                 let innovation: [f64; 3] = self.numbers.withins(0.01);
                 [output.as_slice(), &innovation, &self.noise(0.1)].concat()
             }
+            7 => self.height(),
             _ => Vec::new(),
         }
+    }
+
+    /// The height of a pressure gauge beside the inertial sensor: the third row of a position's output matrix without a lever, where the
+    /// estimate is near the truth.
+    fn height(&mut self) -> Vec<f64> {
+        let m = self.position();
+        let mut numbers = vec![0.0; SCALAR];
+        (numbers[0], numbers[1], numbers[POSITION_Z]) = (-m.y, m.x, -1.0);
+        numbers[SCALAR_INNOVATION] = self.numbers.within(0.3);
+        numbers[VARIANCE] = 0.1;
+        numbers
     }
 
     fn propagate(&mut self) -> Vec<f64> {

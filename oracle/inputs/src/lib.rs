@@ -2,9 +2,10 @@
 mod flight;
 mod log;
 mod numbers;
+mod scalar;
 mod sheet;
 
 pub use flight::Flight;
-pub use log::{log, start, Log, Manner};
+pub use log::{call, log, start, Log, Manner};
 pub use numbers::{beside, Numbers};
 pub use sheet::sheet;

@@ -1,7 +1,11 @@
 //! Logs: a filter's run and calls on it, in manners that reach every answer.
+use crate::scalar::scalar;
 use crate::{beside, Numbers};
 use drifters_core::math::{Mat3, Matrix, Quat, Vec3};
 use original::places::{DELTA, E, GAMMA, GENERAL_NOISE, INNOVATION, POSITION};
+
+/// The kinds that a log's calls are drawn from. A scalar update stands twice: it has no call of the original's own, and so is compared more often.
+const DRAWN: [u32; 8] = [1, 2, 3, 4, 5, 6, 7, 7];
 
 /// How a log's numbers are.
 #[derive(Clone, Copy, PartialEq)]
@@ -21,10 +25,11 @@ pub enum Manner {
 }
 
 impl Manner {
+    pub const ALL: [Self; 6] = [Self::Ordinary, Self::Scaled, Self::Sprinkled, Self::Damaged, Self::Turning, Self::Singular];
+
     /// The manner of a seed: each comes in turn, for two seeds, so that two threads that share the seeds have all.
     pub fn of(seed: u64) -> Self {
-        const ALL: [Manner; 6] = [Manner::Ordinary, Manner::Scaled, Manner::Sprinkled, Manner::Damaged, Manner::Turning, Manner::Singular];
-        ALL[seed as usize / 2 % ALL.len()]
+        Self::ALL[seed as usize / 2 % Self::ALL.len()]
     }
 }
 
@@ -41,10 +46,11 @@ pub fn log(n: &mut Numbers, manner: Manner, most: usize) -> Log {
     let run = filter(n, manner);
     let calls = if manner == Manner::Turning { most.min(2) } else { n.below(most + 1) };
     let call = |_| {
-        let kind = 1 + n.below(6) as u32;
-        (kind, call(n, manner, kind))
+        let kind = n.one_of(&DRAWN);
+        (kind, call(n, manner, kind, &run))
     };
-    Log { run, calls: (0..calls).map(call).collect() }
+    let calls = (0..calls).map(call).collect();
+    Log { run, calls }
 }
 
 /// The numbers of a start.
@@ -86,8 +92,8 @@ fn filter(n: &mut Numbers, manner: Manner) -> Vec<f64> {
     run
 }
 
-/// The numbers of a call of a kind.
-fn call(n: &mut Numbers, manner: Manner, kind: u32) -> Vec<f64> {
+/// The numbers of a call of a kind. `run` is a filter that it may meet.
+pub fn call(n: &mut Numbers, manner: Manner, kind: u32, run: &[f64]) -> Vec<f64> {
     let mut parts = Parts::new(manner);
     match kind {
         1 => propagation(n, manner, &mut parts),
@@ -119,6 +125,7 @@ fn call(n: &mut Numbers, manner: Manner, kind: u32) -> Vec<f64> {
             let size = n.one_of(&[1.0, 1.0, 30.0]);
             parts.vector(n, 3, size);
         }
+        7 => scalar(n, manner, run, &mut parts),
         _ => {}
     }
     if (2..=5).contains(&kind) {
@@ -133,9 +140,9 @@ fn call(n: &mut Numbers, manner: Manner, kind: u32) -> Vec<f64> {
 const IDENTITY: [f64; 9] = [1.0, 0.0, 0.0, 0.0, 1.0, 0.0, 0.0, 0.0, 1.0];
 
 /// Numbers that are gathered part by part.
-struct Parts {
+pub struct Parts {
     manner: Manner,
-    numbers: Vec<f64>,
+    pub numbers: Vec<f64>,
 }
 
 impl Parts {
@@ -151,12 +158,12 @@ impl Parts {
         }
     }
 
-    fn vector(&mut self, n: &mut Numbers, length: usize, size: f64) {
+    pub fn vector(&mut self, n: &mut Numbers, length: usize, size: f64) {
         let scale = self.scale(n);
         self.numbers.extend((0..length).map(|_| n.within(size) * scale));
     }
 
-    fn matrix(&mut self, n: &mut Numbers, m: &[f64]) {
+    pub fn matrix(&mut self, n: &mut Numbers, m: &[f64]) {
         let scale = self.scale(n);
         self.numbers.extend(m.iter().map(|x| x * scale));
     }
@@ -325,16 +332,25 @@ fn propagation(n: &mut Numbers, manner: Manner, parts: &mut Parts) {
     parts.matrix(n, &densities);
 }
 
-/// A vector along an axis or not, of a length or a few numbers beside it.
-fn near_length(n: &mut Numbers, length: f64) -> [f64; 3] {
-    let places = n.below(9) as i64 - 4;
-    let length = beside(length, places);
+/// A number, or one that is a few places beside it.
+pub fn near(n: &mut Numbers, x: f64) -> f64 {
+    beside(x, n.below(9) as i64 - 4)
+}
+
+/// A vector of norm 1, along an axis or not.
+pub fn axis(n: &mut Numbers) -> Vec3 {
     let axis = match n.below(4) {
         0 => Vec3::from_array(n.withins(1.0)),
         1 => Vec3::new(0.6, 0.0, -0.8),
         _ => n.one_of(&[Vec3::new(1.0, 0.0, 0.0), Vec3::new(0.0, -1.0, 0.0), Vec3::new(0.0, 0.0, 1.0)]),
     };
-    (axis.normalized() * length).to_array()
+    axis.normalized()
+}
+
+/// A vector along an axis or not, of a length or a few numbers beside it.
+fn near_length(n: &mut Numbers, length: f64) -> [f64; 3] {
+    let length = near(n, length);
+    (axis(n) * length).to_array()
 }
 
 /// With the covariance 2 I, no noise and alpha 0 the gain is one half: an innovation of 16 corrects by a turn of 8.

@@ -1,19 +1,27 @@
 //! One call on the original's filter: as the original makes it, and with the manual's checks (docs/MANUAL.md) in their order.
-use crate::places::{GENERAL, PROPAGATION, STATE};
+use crate::measurement::{Measured, Measurement};
+use crate::places::{GENERAL, PROPAGATION, SCALAR, STATE};
 use crate::runs::{all_finite, run_of, state_numbers, Reader};
 use crate::Answer;
-use drifters_core::math::{Cholesky, Mat3, Vec3, Vector};
+use drifters_core::math::{Mat3, Vec3};
 use drifters_eqf::filter::{EqFilter, ProcessNoise};
-use drifters_eqf::gcu;
 use drifters_eqf::group::{act_state, Algebra, State, Symmetry};
 use drifters_eqf::lift::{lift, Input};
 use drifters_eqf::linear::{
     direction_output_matrix, position_output_matrix, transported_direction, transported_position, transported_velocity,
-    velocity_output_matrix, OutputMatrix, DIM,
+    velocity_output_matrix, OutputMatrix,
 };
 
 /// The largest turn of an exponential.
 const MOST_TURN: f64 = 8.0;
+
+/// The kinds of call are 1 to this one.
+pub const LAST_KIND: u32 = 7;
+
+/// Whether a kind is an update's, which answers a NIS.
+pub fn is_update(kind: u32) -> bool {
+    matches!(kind, 2..=5 | 7)
+}
 
 /// How many numbers a call of a kind has.
 pub fn call_length(kind: u32) -> usize {
@@ -23,6 +31,7 @@ pub fn call_length(kind: u32) -> usize {
         3 | 4 => 15,
         5 => GENERAL,
         6 => 0,
+        7 => SCALAR,
         _ => panic!("no such kind: {kind}"),
     }
 }
@@ -44,6 +53,7 @@ pub enum Call {
     Direction { measured: Vec3, north: Vec3, noise: Mat3 },
     General { c: OutputMatrix, innovation: Vec3, noise: Mat3 },
     State,
+    Scalar(Measurement<1>),
 }
 
 impl Call {
@@ -68,6 +78,7 @@ impl Call {
             4 => Self::Direction { measured: v.vec3(), north: v.vec3(), noise: v.matrix() },
             5 => Self::General { c: v.matrix(), innovation: v.vec3(), noise: v.matrix() },
             6 => Self::State,
+            7 => Self::Scalar(Measurement { c: v.matrix(), y: v.matrix(), noise: v.matrix() }),
             _ => panic!("no such kind: {kind}"),
         }
     }
@@ -87,47 +98,70 @@ impl Call {
             Self::Velocity { antenna, omega, noise } => f.update_velocity(*antenna, *omega, noise),
             Self::Direction { measured, north, noise } => f.update_direction(*measured, *north, noise),
             Self::General { c, innovation, noise } => f.update(c, *innovation, noise),
+            Self::Scalar(measurement) => measurement.update(f),
         };
-        // The original's sum of the NIS starts at -0 in some releases of Rust. Adding +0 turns a sum of -0 into the +0 of a sum that starts at
-        // +0, and changes no other number.
-        nis.map_or(Answer::Refused(4), |nis| Answer::Nis(nis + 0.0))
+        answer_of(nis)
     }
 
-    /// The output matrix, the innovation and the noise of an update, as the original forms them.
-    fn measurement(&self, f: &EqFilter) -> Option<(OutputMatrix, Vec3, Mat3)> {
-        match self {
-            Self::Propagate { .. } | Self::State => None,
+    /// What an update measures, as the original forms it.
+    fn measurement(&self, f: &EqFilter) -> Option<Box<dyn Measured>> {
+        let (c, innovation, noise) = match self {
+            Self::Propagate { .. } | Self::State => return None,
+            Self::Scalar(measurement) => return Some(Box::new(*measurement)),
             Self::Position { antenna, noise } => {
                 let transported = transported_position(&f.x);
-                Some((position_output_matrix(*antenna, transported), transported - *antenna, *noise))
+                (position_output_matrix(*antenna, transported), transported - *antenna, *noise)
             }
             Self::Velocity { antenna, omega, noise } => {
                 let transported = transported_velocity(&f.x, *omega);
                 let c = velocity_output_matrix(*antenna, transported, f.x.a() * *omega);
-                Some((c, transported - *antenna, *noise))
+                (c, transported - *antenna, *noise)
             }
             Self::Direction { measured, north, noise } => {
                 let north = north.normalized();
                 let transported = transported_direction(&f.x, measured.normalized());
-                Some((direction_output_matrix(north, transported), north.skew() * transported, *noise))
+                (direction_output_matrix(north, transported), north.skew() * transported, *noise)
             }
-            Self::General { c, innovation, noise } => Some((*c, *innovation, *noise)),
-        }
+            Self::General { c, innovation, noise } => (*c, *innovation, *noise),
+        };
+        Some(Box::new(Measurement::<3> { c, y: innovation.into(), noise }))
     }
 
     /// Whether an exponential that the call reaches turns by more than 8, or by what is not a number. The update is taken to have both factors.
     fn turns_too_far(&self, f: &EqFilter) -> bool {
         match self {
             Self::Propagate { u, dt, .. } => propagation_turns_too_far(f, u, *dt),
-            _ => self.measurement(f).is_some_and(|(c, innovation, noise)| too_far(&correction(f, &c, innovation, &noise))),
+            _ => self.measurement(f).is_some_and(|measurement| too_far(&measurement.correction(f).expect("a factor"))),
         }
     }
 
     /// Whether the raw matrix of an update has a factor: one that is refused as pivot all the same is so by the inflated matrix.
     pub fn has_raw_factor(&self, f: &EqFilter) -> bool {
-        let factor = |(c, _, noise): (OutputMatrix, _, _)| Cholesky::new(&(c.matmul(&f.sigma).mul_transpose(&c) + noise));
-        self.measurement(f).and_then(factor).is_some()
+        self.measurement(f).is_some_and(|measurement| measurement.has_raw_factor(f))
     }
+
+    /// Whether the reading of `update` over the width does what the original's own does for an update of three measured numbers: the answer, and
+    /// the filter after it. What is not a number is one value.
+    pub fn is_read_alike(&self, f: &EqFilter) -> bool {
+        let measurement = self.measurement(f).expect("an update");
+        let (mut own, mut read) = (f.clone(), f.clone());
+        match (self.make(&mut own, &mut State::default()), answer_of(measurement.update(&mut read))) {
+            (Answer::Nis(x), Answer::Nis(y)) => same(&[x], &[y]) && same(&run_of(&own), &run_of(&read)),
+            (Answer::Refused(_), Answer::Refused(_)) => same(&run_of(&own), &run_of(&read)),
+            _ => false,
+        }
+    }
+}
+
+/// The answer of an update: its NIS, or that a matrix has no factor.
+fn answer_of(nis: Option<f64>) -> Answer {
+    // The original's sum of the NIS starts at -0 in some releases of Rust. Adding +0 turns a sum of -0 into the +0 of a sum that starts at
+    // +0, and changes no other number.
+    nis.map_or(Answer::Refused(4), |nis| Answer::Nis(nis + 0.0))
+}
+
+fn same(x: &[f64], y: &[f64]) -> bool {
+    x.iter().zip(y).all(|(x, y)| x.to_bits() == y.to_bits() || x.is_nan() && y.is_nan())
 }
 
 fn too_far(u: &Algebra) -> bool {
@@ -142,17 +176,6 @@ fn propagation_turns_too_far(f: &EqFilter, u: &Input, dt: f64) -> bool {
     }
     let half = f.x.compose(&Symmetry::exp(half_step));
     too_far(&lift(&act_state(&half, &State::default()), u, f.gravity).scaled(dt))
-}
-
-/// The element that an update hands to `Symmetry::exp`: the gain times the innovation.
-fn correction(f: &EqFilter, c: &OutputMatrix, innovation: Vec3, noise: &Mat3) -> Algebra {
-    let y = Vector::<3>::from(innovation);
-    let c_sigma = c.matmul(&f.sigma);
-    let s = gcu::inflate(&y, &c_sigma.mul_transpose(c), noise, f.alpha);
-    let gain = Cholesky::new(&s).expect("a factor").solve(&c_sigma).transpose();
-    let mut step = [0.0; DIM];
-    step.copy_from_slice(&gain.matmul(&y).to_column());
-    Algebra::from_array(&step)
 }
 
 /// Makes a call with checks 2 to 5. A refusal leaves the filter and `written`.

@@ -4,11 +4,12 @@
 //! the turn (3) on the algebra elements that the original hands to `Symmetry::exp`, computed again by its own public functions, and results
 //! that are not finite (5). A refused call is made on a copy, which is dropped.
 mod calls;
+mod measurement;
 pub mod places;
 mod runs;
 mod sheet;
 
-pub use calls::{call_length, written_length, Call};
+pub use calls::{call_length, is_update, written_length, Call, LAST_KIND};
 pub use runs::filter_of;
 pub use sheet::{plain_sheet, run_sheet, REFUSED_SHEET};
 
@@ -25,7 +26,7 @@ pub enum Answer {
     Refused(u32),
 }
 
-/// A call of a kind, 1 to 6, on a filter's run. `written` has the numbers of a state for a state call and none for another.
+/// A call of a kind on a filter's run. `written` has the numbers of a state for a state call and none for another.
 pub fn call(kind: u32, run: &mut [f64], numbers: &[f64], written: &mut [f64]) -> Answer {
     if run.len() != FILTER || numbers.len() != call_length(kind) || written.len() != written_length(kind) {
         return Answer::Refused(1);

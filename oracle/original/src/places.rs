@@ -29,5 +29,10 @@ pub const INNOVATION: usize = VECTOR * DIM;
 pub const GENERAL_NOISE: usize = INNOVATION + VECTOR;
 pub const GENERAL: usize = GENERAL_NOISE + SQUARE;
 
+// A scalar update: its innovation and its variance, after the output row.
+pub const SCALAR_INNOVATION: usize = DIM;
+pub const VARIANCE: usize = SCALAR_INNOVATION + 1;
+pub const SCALAR: usize = VARIANCE + 1;
+
 /// From an entry on the diagonal of a matrix of 21 columns to the next.
 pub const DIAGONAL_STEP: usize = DIM + 1;

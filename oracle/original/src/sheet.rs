@@ -1,5 +1,5 @@
 //! Call sheets: an independent reader of the layout in docs/MANUAL.md, and the printer of its answers.
-use crate::calls::{call_length, checked, written_length, Call};
+use crate::calls::{call_length, checked, written_length, Call, LAST_KIND};
 use crate::places::FILTER;
 use crate::runs::filter_of;
 use crate::Answer;
@@ -28,7 +28,7 @@ fn u32_at(bytes: &[u8], place: usize) -> Option<u32> {
 fn body_length(i: usize, kind: u32) -> Option<usize> {
     match (i, kind) {
         (0, 0) => Some(FILTER),
-        (1.., 1..=6) => Some(call_length(kind)),
+        (1.., 1..=LAST_KIND) => Some(call_length(kind)),
         _ => None,
     }
 }

@@ -13,6 +13,7 @@ extern "C" {
     fn drifters_update_velocity(filter: *mut f64, places: usize, numbers: *const f64, length: usize, nis: *mut f64, one: usize) -> u32;
     fn drifters_update_direction(filter: *mut f64, places: usize, numbers: *const f64, length: usize, nis: *mut f64, one: usize) -> u32;
     fn drifters_update(filter: *mut f64, places: usize, numbers: *const f64, length: usize, nis: *mut f64, one: usize) -> u32;
+    fn drifters_update_scalar(filter: *mut f64, places: usize, numbers: *const f64, length: usize, nis: *mut f64, one: usize) -> u32;
     fn drifters_nav_state(filter: *const f64, places: usize, state: *mut f64, length: usize) -> u32;
     fn drifters_run_sheet(sheet: *const u8, bytes: usize, text: *mut u8, most: usize, length: *mut usize, one: usize) -> u32;
     fn drifters_sin_cos(theta: f64, out: *mut f64, two: usize) -> u32;
@@ -30,13 +31,14 @@ pub fn propagate(filter: &mut [f64], numbers: &[f64]) -> u32 {
     unsafe { drifters_propagate(filter.as_mut_ptr(), filter.len(), numbers.as_ptr(), numbers.len()) }
 }
 
-/// An update of a kind, 2 to 5; its normalised innovation squared goes to `nis`.
+/// An update of a kind, 2 to 5 or 7; its normalised innovation squared goes to `nis`.
 pub fn update(kind: u32, filter: &mut [f64], numbers: &[f64], nis: &mut [f64]) -> u32 {
     let update: Update = match kind {
         2 => drifters_update_position,
         3 => drifters_update_velocity,
         4 => drifters_update_direction,
         5 => drifters_update,
+        7 => drifters_update_scalar,
         _ => panic!("not the kind of an update"),
     };
     unsafe { update(filter.as_mut_ptr(), filter.len(), numbers.as_ptr(), numbers.len(), nis.as_mut_ptr(), nis.len()) }

@@ -1,6 +1,9 @@
 //! Turns of exactly 8, and of the next number above it.
 use crate::list::List;
-use original::places::{DIAGONAL_STEP, DT, E, FILTER, GAMMA, GENERAL, GENERAL_NOISE, GRAVITY, INNOVATION, PROPAGATION, SIGMA, VELOCITY};
+use original::places::{
+    DIAGONAL_STEP, DT, E, FILTER, GAMMA, GENERAL, GENERAL_NOISE, GRAVITY, INNOVATION, PROPAGATION, SCALAR, SCALAR_INNOVATION, SIGMA,
+    VARIANCE, VELOCITY,
+};
 use original::Answer;
 
 type Call = (u32, Vec<f64>);
@@ -36,6 +39,13 @@ fn measure(at: usize, innovation: f64) -> Call {
     (5, numbers)
 }
 
+/// The same of one state.
+fn measure_one(at: usize, innovation: f64) -> Call {
+    let mut numbers = vec![0.0; SCALAR];
+    (numbers[at], numbers[SCALAR_INNOVATION], numbers[VARIANCE]) = (1.0, innovation, 2.0);
+    (7, numbers)
+}
+
 /// Calls in pairs: the turn just above 8, which is refused, then the turn of 8.
 fn list(name: &'static str, filter: &[f64], pairs: &[[Call; 2]]) -> List {
     let mut list = List::new(name, filter);
@@ -65,6 +75,7 @@ fn slowed(bias: f64, rate: f64) -> Call {
 
 pub fn all() -> Vec<List> {
     let updates = [pair(32.0, |y| measure(0, y)), pair(32.0, |y| measure(18, y))];
+    let scalars = [pair(32.0, |y| measure_one(1, y)), pair(32.0, |y| measure_one(20, y))];
     let full = [
         pair(8.0, |w| propagate([w, 0.0, 0.0], 1.0)),
         pair(8.0, |w| propagate([0.0, -w, 0.0], -1.0)),
@@ -72,6 +83,7 @@ pub fn all() -> Vec<List> {
     ];
     vec![
         list("limit_update", &filter(IDENTITY, 0.0, 1.0), &updates),
+        list("limit_scalar", &filter(IDENTITY, 0.0, 1.0), &scalars),
         list("limit_full", &filter(IDENTITY, 0.0, 0.0), &full),
         list("limit_full_e", &filter(IDENTITY, 0.0, 2.0), &[pair(4.0, |w| propagate([w, 0.0, 0.0], 1.0))]),
         list("limit_half", &slowing(-1341.0, 0.0), &[pair(16.0, |w| slowed(-1341.0, w))]),

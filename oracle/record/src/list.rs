@@ -1,10 +1,6 @@
 //! A list of calls with the original's answers, and the count of these.
-use drifters_core::math::{Cholesky, Vec3};
-use drifters_eqf::linear::{
-    direction_output_matrix, position_output_matrix, transported_direction, transported_position, transported_velocity, velocity_output_matrix,
-};
 use original::places::STATE;
-use original::{Answer, Call};
+use original::{filter_of, Answer, Call, LAST_KIND};
 
 /// The most calls and bytes of a sheet.
 const MOST_CALLS: usize = 255;
@@ -80,10 +76,10 @@ impl List {
     pub fn add(&mut self, (kind, numbers): (u32, Vec<f64>)) -> Answer {
         assert!(self.has_room(&numbers), "{}: too many calls", self.name);
         let mut state = [UNTOUCHED; STATE];
-        let inflated = kind != 6 && raw_factor(kind, &self.run, &numbers);
+        let raw_factor = Call::read(kind, &numbers).has_raw_factor(&filter_of(&self.run));
         let answer = original::call(kind, &mut self.run, &numbers, &mut state[..original::written_length(kind)]);
         self.answers.extend(stored(answer, digest(&state), digest(&self.run)));
-        self.tally.count(kind, answer, inflated);
+        self.tally.count(kind, answer, raw_factor);
         self.bytes += 8 + 8 * numbers.len();
         self.calls.push((kind, numbers));
         answer
@@ -100,27 +96,9 @@ impl List {
     }
 }
 
-/// Whether the raw matrix of an update has a factor; false for a propagation.
-fn raw_factor(kind: u32, run: &[f64], numbers: &[f64]) -> bool {
-    let f = original::filter_of(run);
-    let (c, noise) = match Call::read(kind, numbers) {
-        Call::Position { antenna, noise } => (position_output_matrix(antenna, transported_position(&f.x)), noise),
-        Call::Velocity { antenna, omega, noise } => {
-            (velocity_output_matrix(antenna, transported_velocity(&f.x, omega), f.x.a() * omega), noise)
-        }
-        Call::Direction { measured, north, noise } => {
-            let transported: Vec3 = transported_direction(&f.x, measured.normalized());
-            (direction_output_matrix(north.normalized(), transported), noise)
-        }
-        Call::General { c, noise, .. } => (c, noise),
-        Call::Propagate { .. } | Call::State => return false,
-    };
-    Cholesky::new(&(c.matmul(&f.sigma).mul_transpose(&c) + noise)).is_some()
-}
-
 /// How often each kind gave each answer: accepted, 2, 3, 4 of the raw matrix, 5, and 4 of the inflated matrix.
 #[derive(Default)]
-pub struct Tally([[usize; 6]; 6]);
+pub struct Tally([[usize; ANSWERS.len()]; LAST_KIND as usize]);
 
 const ANSWERS: [&str; 6] = ["accepted", "2", "3", "4 raw", "5", "4 inflated"];
 

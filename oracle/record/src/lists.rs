@@ -1,7 +1,10 @@
 //! The lists of calls, each from a fixed seed.
 use crate::list::List;
-use inputs::{Flight, Numbers};
-use original::places::{ALPHA, DIAGONAL_STEP, DT, E, FILTER, GAMMA, GENERAL, GENERAL_NOISE, GRAVITY, INNOVATION, SIGMA};
+use inputs::{Flight, Manner, Numbers};
+use original::places::{
+    ALPHA, DIAGONAL_STEP, DT, E, FILTER, GAMMA, GENERAL, GENERAL_NOISE, GRAVITY, INNOVATION, SCALAR, SCALAR_INNOVATION, SIGMA, VARIANCE,
+};
+use original::{is_update, LAST_KIND};
 
 type Call = (u32, Vec<f64>);
 
@@ -28,14 +31,10 @@ fn flown(name: &'static str, seed: u64, alpha: f64, n: usize, mut edit: impl FnM
     list
 }
 
-/// The nine numbers of the noise of an update, its last.
+/// The noise of an update, its last nine numbers; of a scalar update the variance.
 fn noise(call: &mut Call) -> &mut [f64] {
-    let at = call.1.len() - 9;
+    let at = call.1.len() - if call.0 == 7 { 1 } else { 9 };
     &mut call.1[at..]
-}
-
-fn is_update(call: &Call) -> bool {
-    (2..=5).contains(&call.0)
 }
 
 /// Some of the call's numbers anew.
@@ -80,7 +79,7 @@ fn empty(n: &mut Numbers, call: &mut Call) {
 
 /// Noise that is zero, of rank one, indefinite, not symmetric, nearly singular, or below zero.
 fn spoil_noise(n: &mut Numbers, call: &mut Call) {
-    if !is_update(call) {
+    if !is_update(call.0) {
         return;
     }
     let a: [f64; 3] = n.withins(1.0);
@@ -119,6 +118,11 @@ fn turn(n: &mut Numbers, call: &mut Call) {
         }
         call.1[INNOVATION + axis] = 2.0 * turn;
     }
+    if call.0 == 7 && n.one_in(2) {
+        let at = n.one_of(&[0, 18]) + n.below(3);
+        call.1 = vec![0.0; SCALAR];
+        (call.1[at], call.1[SCALAR_INNOVATION], call.1[VARIANCE]) = (1.0, 2.0 * turn, 1e-9);
+    }
 }
 
 /// Directions alone; north and what is measured of norm 0, of a norm that underflows or overflows, or ordinary.
@@ -144,9 +148,9 @@ fn strewn(name: &'static str, seed: u64, filter: &[f64], calls: usize, number: f
     let mut n = Numbers::new(seed);
     let mut list = List::new(name, filter);
     for i in 0..calls {
-        let kind = 1 + (i % 6) as u32;
+        let kind = 1 + i as u32 % LAST_KIND;
         let mut call = (kind, (0..original::call_length(kind)).map(|_| number(&mut n)).collect());
-        if is_update(&call) && n.one_in(2) {
+        if is_update(kind) && n.one_in(2) {
             let variance = n.one_of(&[1.0, 100.0, 1e10]);
             noise(&mut call).iter_mut().step_by(4).for_each(|x| *x += variance);
         }
@@ -166,13 +170,24 @@ fn general(name: &'static str, seed: u64, alpha: f64) -> List {
     list
 }
 
+/// Scalar updates alone, of every manner.
+fn scalar(name: &'static str, seed: u64, alpha: f64) -> List {
+    let mut n = Numbers::new(seed);
+    let mut list = List::new(name, &started(&mut Flight::new(seed), alpha));
+    for manner in Manner::ALL.into_iter().cycle().take(120) {
+        let call = (7, inputs::call(&mut n, manner, 7, &list.run));
+        list.add_tame(call);
+    }
+    list
+}
+
 /// A flight's calls on a filter that has one number that is not finite.
 fn blank() -> List {
     let mut flight = Flight::new(60);
     let mut run = started(&mut flight, 0.5);
     run[200] = f64::NAN;
     let mut list = List::new("blank", &run);
-    for kind in 1..=6 {
+    for kind in 1..=LAST_KIND {
         let call = (kind, flight.call(kind));
         list.add(call);
     }
@@ -200,13 +215,16 @@ fn huge(name: &'static str, alpha: f64, by: &Scales) -> List {
     run[E..SIGMA].iter_mut().for_each(|x| *x *= by.e);
     run[SIGMA..GRAVITY].iter_mut().for_each(|x| *x *= by.sigma);
     let mut list = List::new(name, &run);
-    for kind in (1..=6).cycle().take(18) {
+    for kind in (1..=LAST_KIND).cycle().take(3 * LAST_KIND as usize) {
         let mut call = (kind, flight.call(kind));
-        let at = if kind == 5 { INNOVATION } else { 0 };
-        if [2, 3, 5].contains(&kind) {
-            call.1[at..at + 3].iter_mut().for_each(|x| *x *= by.innovation);
-        }
-        if is_update(&call) && by.innovation != 1.0 {
+        let innovation = match kind {
+            2 | 3 => 0..3,
+            5 => INNOVATION..GENERAL_NOISE,
+            7 => SCALAR_INNOVATION..VARIANCE,
+            _ => 0..0,
+        };
+        call.1[innovation].iter_mut().for_each(|x| *x *= by.innovation);
+        if is_update(kind) && by.innovation != 1.0 {
             noise(&mut call).iter_mut().for_each(|x| *x *= 1e-9);
         }
         list.add(call);
@@ -249,10 +267,11 @@ pub fn all() -> Vec<List> {
         flown("turns", 59, 0.0, 210, turn),
         flown("directions", 62, 0.5, 150, point),
         general("general", 63, 0.75),
-        strewn("zeros", 64, &zeros, 120, any),
-        strewn("unsymmetric", 65, &unsymmetric, 180, ordinary),
-        strewn("indefinite", 66, &indefinite, 120, ordinary),
-        strewn("wild", 67, &wild, 180, any),
+        scalar("scalar", 69, 0.0),
+        strewn("zeros", 76, &zeros, 140, any),
+        strewn("unsymmetric", 65, &unsymmetric, 210, ordinary),
+        strewn("indefinite", 66, &indefinite, 140, ordinary),
+        strewn("wild", 67, &wild, 210, any),
         huge("huge_state", 0.5, &Scales { pose: 1e200, gamma: 1e200, ..UNCHANGED }),
         huge("huge_sigma", 0.5, &Scales { sigma: 1e300, ..UNCHANGED }),
         huge("huge_e", 0.5, &Scales { e: 1e155, sigma: 0.0, innovation: 1e155, ..UNCHANGED }),

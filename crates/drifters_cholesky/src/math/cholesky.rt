@@ -1,4 +1,4 @@
-// Port of `Cholesky` of math/matrix.rs: factoring and solving over the width, and the record at width 3.
+// Port of `Cholesky` of math/matrix.rs: factoring and solving over the width, and the records at the widths one and three.
 ghost use mathlib.Core.Path.{_≡_};
 ghost use mathlib.Core.Bool.{cond};
 ghost use mathlib.Core.Logic.{_≢_};
@@ -6,8 +6,10 @@ ghost use Prim.Native.Nat.{ℕ, _+_, _-_, _*_, _≤_, _<_};
 ghost use lib.Ieee.{nan};
 ghost use lib.ListN.{length, getD};
 ghost use Rattle.drifters_matrix.specs.Matrix.{zeros};
-ghost use Rattle.drifters_cholesky.specs.Cholesky.{none, lower, cholesky, substituted, forward, back, solve};
-ghost use Rattle.drifters_cholesky.specs.Cholesky.{factored3};
+ghost use Rattle.drifters_cholesky.specs.Cholesky.{none, lower, definite, entriesOf, cholesky, substituted, forward, back, solve};
+use drifters_matrix::math::matrix::clear;
+use drifters_matrix::math::shapes::Mat1;
+use drifters_matrix::math::shapes::Mat1x21;
 use drifters_matrix::math::shapes::Mat3;
 use drifters_matrix::math::shapes::Mat3x21;
 use drifters_matrix::math::shapes::Vector3;
@@ -37,6 +39,18 @@ fn cholesky_into(a: &[f64], l: &mut [f64], n: usize) -> bool
                 l[i * n + j] = sum / l[j * n + j];
             }
         }
+    }
+    definite
+}
+
+// The same, with `l` all zeros again where there is no factor.
+fn factor_into(a: &[f64], l: &mut [f64], n: usize) -> bool
+    requires { ⌜ (length (now a) ≡ n * n) × (now l ≡ zeros (n * n)) ⌝ }
+    ensures { λ r. ⌜ (r ≡ definite (cholesky n (now (a .entry)))) × (now (l .exit) ≡ entriesOf n (cholesky n (now (a .entry)))) ⌝ }
+{
+    let definite = cholesky_into(a, l, n);
+    if !definite {
+        clear(l);
     }
     definite
 }
@@ -87,13 +101,49 @@ fn back_in(l: &[f64], x: &mut [f64], n: usize, c: usize)
     }
 }
 
-// The n by c matrix `x` from B to the solution of A X = B, with the factor `l` of A.
-fn solve_in(l: &[f64], x: &mut [f64], n: usize, c: usize)
-    requires { ⌜ (length (now l) ≡ n * n) × (length (now x) ≡ n * c) ⌝ }
-    ensures { λ _. ⌜ now (x .exit) ≡ solve n c (now (l .entry)) (now (x .entry)) ⌝ }
-{
-    forward_in(l, x, n, c);
-    back_in(l, x, n, c);
+// The Cholesky factorisation A = L Lᵀ of a 1 by 1 matrix.
+pub struct Cholesky1 {
+    pub lower: Mat1,
+}
+
+// What the factorisation answers: the factor, or that the matrix is not positive definite, and a factor of zeros.
+pub struct Factored1 {
+    pub definite: bool,
+    pub factor: Cholesky1,
+}
+
+impl Cholesky1 {
+    pub fn new(a: Mat1) -> Factored1
+        ensures { λ r. ⌜ (r .definite ≡ definite (cholesky 1 (a .data))) × (r .factor .lower .data ≡ entriesOf 1 (cholesky 1 (a .data))) ⌝ }
+    {
+        let mut l = [0.0; 1];
+        let definite = factor_into(&a.data, &mut l, 1);
+        let lower = Mat1 { data: l };
+        let factor = Cholesky1 { lower };
+        Factored1 { definite, factor }
+    }
+
+    // The solution of A X = B.
+    pub fn solve(self, b: Mat1x21) -> Mat1x21
+        ensures { λ r. ⌜ r .data ≡ solve 1 21 (self .lower .data) (b .data) ⌝ }
+    {
+        let l = self.lower;
+        let mut data = b.data;
+        forward_in(&l.data, &mut data, 1, 21);
+        back_in(&l.data, &mut data, 1, 21);
+        Mat1x21 { data }
+    }
+
+    // The solution of A x = b.
+    pub fn solve_vector(self, b: Mat1) -> Mat1
+        ensures { λ r. ⌜ r .data ≡ solve 1 1 (self .lower .data) (b .data) ⌝ }
+    {
+        let l = self.lower;
+        let mut data = b.data;
+        forward_in(&l.data, &mut data, 1, 1);
+        back_in(&l.data, &mut data, 1, 1);
+        Mat1 { data }
+    }
 }
 
 // The Cholesky factorisation A = L Lᵀ of a 3 by 3 matrix.
@@ -109,25 +159,13 @@ pub struct Factored3 {
 
 impl Cholesky3 {
     pub fn new(a: Mat3) -> Factored3
-        ensures { λ r. ⌜ r ≡ factored3 (a .data) ⌝ }
+        ensures { λ r. ⌜ (r .definite ≡ definite (cholesky 3 (a .data))) × (r .factor .lower .data ≡ entriesOf 3 (cholesky 3 (a .data))) ⌝ }
     {
         let mut l = [0.0; 9];
-        if cholesky_into(&a.data, &mut l, 3) {
-            let lower = Mat3 { data: l };
-            let factor = Cholesky3 { lower };
-            Factored3 {
-                definite: true,
-                factor,
-            }
-        } else {
-            let zeros = [0.0; 9];
-            let lower = Mat3 { data: zeros };
-            let factor = Cholesky3 { lower };
-            Factored3 {
-                definite: false,
-                factor,
-            }
-        }
+        let definite = factor_into(&a.data, &mut l, 3);
+        let lower = Mat3 { data: l };
+        let factor = Cholesky3 { lower };
+        Factored3 { definite, factor }
     }
 
     // The solution of A X = B.
@@ -136,7 +174,8 @@ impl Cholesky3 {
     {
         let l = self.lower;
         let mut data = b.data;
-        solve_in(&l.data, &mut data, 3, 21);
+        forward_in(&l.data, &mut data, 3, 21);
+        back_in(&l.data, &mut data, 3, 21);
         Mat3x21 { data }
     }
 
@@ -146,7 +185,8 @@ impl Cholesky3 {
     {
         let l = self.lower;
         let mut data = b.data;
-        solve_in(&l.data, &mut data, 3, 1);
+        forward_in(&l.data, &mut data, 3, 1);
+        back_in(&l.data, &mut data, 3, 1);
         Vector3 { data }
     }
 }

@@ -11,17 +11,18 @@ use lib.Ieee.{Float}
 use Rattle.drifters_real.specs.Real.{isFinite}
 use Rattle.drifters_matrix.specs.Matrix.{allFinite}
 use Rattle.drifters_eqf.specs.Answer.{rangeRefusal, numberOf, valuesOf}
-use Rattle.drifters_eqf.specs.Gcu.{definite, entriesOf, nis}
+use Rattle.drifters_cholesky.specs.Cholesky.{definite, entriesOf}
+use Rattle.drifters_gcu.specs.Gcu.{nis}
 use Rattle.drifters_eqf.specs.Filter.{turnFits, refuse, navState, halfStep, fullStep, propagated, propagate, rawFactor, inflatedFactor, gain, correction, step, corrected, applied, update}
 use Rattle.drifters_entry.specs.Layout.{filterLength, startLength, fromRun, toRun, stateToRun}
-use Rattle.drifters_entry.specs.Kind.{formOf, callLength, writtenLength}
+use Rattle.drifters_kind.specs.Kind.{formOf, callLength, writtenLength}
 use Rattle.drifters_entry.specs.Entry.{Request, refusal, propagation, measurement, estimate, requestOf, Outcome, outcomeOf, performed, refused, finiteOutcome, ifFinite, rangeCheckedAs, rangeChecked, lengthsFit, call, started, start}
 use Rattle.drifters_demands.specs.Demands.{Check, unless, firstOf, laterChecks, checks, startChecks, Checked, acceptedOutcome}
 use Rattle.drifters_eqf.specs.declared.filter.EqFilter.{EqFilter}
 use Rattle.drifters_eqf.specs.declared.filter.Answer.{Answer}
 use Rattle.drifters_eqf.specs.declared.filter.Answer.the-variants.{Nis, Fine, Refused}
 use Rattle.drifters_eqf.specs.declared.filter.Answered.{Answered}
-use Rattle.drifters_entry.specs.declared.kind.Kind.{Kind}
+use Rattle.drifters_kind.specs.declared.kind.Kind.{Kind}
 use Rattle.drifters_entry.proofs.KindLaws.{writtenBy, Numbered, kind-laws}
 use Rattle.drifters_entry.proofs.Calls.{no-numbers}
 
@@ -126,7 +127,7 @@ request-decision (measurement w m noise alpha) f run written finite own none =
     let c = m .output in
     let y = m .innovation in
     let u = correction w (gain w f c y noise alpha) c y noise in
-    let value = isFinite (nis w (entriesOf (rawFactor w f c noise)) y) in
+    let value = isFinite (nis w (entriesOf w (rawFactor w f c noise)) y) in
     let left = allFinite (toRun (corrected f u)) in
     check-answered 3 (definite (rawFactor w f c noise)) _ f
     (check-answered 3 (definite (inflatedFactor w f c y noise alpha)) _ f

@@ -6,8 +6,8 @@ use mathlib.Core.List.{List}
 use Prim.Native.Nat.{ℕ, zero, suc}
 use lib.ListN.{length, getD}
 use lib.Ieee.{Float, nan, inf, fin, isNan}
-use Rattle.drifters_entry.specs.Kind.{writtenLength}
-use Rattle.drifters_entry.specs.declared.kind.Kind.{Kind}
+use Rattle.drifters_kind.specs.Kind.{writtenLength}
+use Rattle.drifters_kind.specs.declared.kind.Kind.{Kind}
 use Rattle.drifters_eqf.specs.declared.filter.Answer.{Answer}
 use Rattle.drifters_demands.specs.Like.{unsignedZero, signed}
 use Rattle.drifters_demands.specs.Turn.{turned}

@@ -9,10 +9,10 @@ use Rattle.drifters_real.specs.Scalar.{plusZero}
 use Rattle.drifters_matrix.specs.Matrix.{zeros}
 use Rattle.drifters_eqf.specs.Filter.{navState}
 use Rattle.drifters_entry.specs.Layout.{fromRun}
-use Rattle.drifters_entry.specs.Kind.{callLength, writtenLength}
+use Rattle.drifters_kind.specs.Kind.{callLength, writtenLength}
 use Rattle.drifters_entry.specs.Entry.{Request, refusal, propagation, measurement, estimate, requestOf, Outcome, call}
 use Rattle.drifters_entry.specs.Log.{Call, outcomeOn, entriesFrom}
-use Rattle.drifters_entry.specs.declared.kind.Kind.{Kind}
+use Rattle.drifters_kind.specs.declared.kind.Kind.{Kind}
 use Rattle.drifters_entry.proofs.KindLaws.{writtenBy, kind-laws}
 use Rattle.drifters_eqf.specs.declared.filter.EqFilter.{EqFilter}
 use Rattle.drifters_entry.proofs.RoundTrips.{length-stateToRun}

@@ -1,17 +1,18 @@
 -- A call on runs that are the same but for the signs of specs/Turn.antt has an outcome that is. Assumes nothing.
-use Prim.Native.Nat.{ℕ, _+_, _<_}
+use Prim.Native.Nat.{ℕ, _+_, _*_, _<_}
 use native.Mathlib.Omega.{arith}
 use mathlib.Core.Path.{_≡_, refl, sym, ap, ap₂, _∙_, subst, subst₂}
 use mathlib.Core.Bool.{Bool, true, _&&_, and-eq-true-iff}
 use mathlib.Core.List.{List}
 use borrow.Author.Tests.{eqb-true}
 use lib.Dec.{eqb, lit<}
-use lib.ListN.{length, getD, take, length-replicate, getD-replicate}
-use lib.Seq.{getD-take, drop-drop}
+use lib.ListN.{length, take, drop, length-replicate, getD-replicate}
+use lib.Seq.{getD-take, getD-drop, drop-drop}
 use lib.Ieee.{Float, nan}
 use Rattle.drifters_real.specs.Scalar.{plusZero}
 use Rattle.drifters_matrix.specs.Matrix.{allFinite, zeros}
 use Rattle.drifters_demands.specs.Like.{Signs, axis, LikeList, LikeVec3, LikeMatrix, noTurn}
+use Rattle.drifters_demands.proofs.Signs.Sign.{not-not}
 use Rattle.drifters_demands.proofs.Signs.Like.{like-as, like-plusZero, cond-keeps}
 use Rattle.drifters_demands.proofs.Signs.Real.{like-isFinite}
 use Rattle.drifters_demands.proofs.Signs.Matrix.{like-allFinite-list}
@@ -19,15 +20,15 @@ use Rattle.drifters_eqf.specs.Answer.{lengthRefusal, blankRefusal, rangeRefusal
 use Rattle.drifters_lie.specs.Lie.{vec3At}
 use Rattle.drifters_covariance.specs.Covariance.{inputAt}
 use Rattle.drifters_entry.specs.Layout.{filterLength, part, fromRun, toRun, stateToRun, SizedFilter, SizedState}
-use Rattle.drifters_entry.specs.Kind.{formOf, callLength, writtenLength}
+use Rattle.drifters_kind.specs.Kind.{formOf, callLength, writtenLength}
 use Rattle.drifters_entry.specs.Entry.{Request, processNoiseAt, requestOf, Outcome, outcomeOf, performed, refused, finiteOutcome, ifFinite, rangeCheckedAs, rangeChecked, lengthsFit, call}
 use Rattle.drifters_demands.specs.Turn.{plain, thenSigns, matrixSigns, noiseSigns, filterSigns, callSigns, stateSigns}
 use Rattle.drifters_symmetry.specs.declared.group.State.{State as StateRecord}
 use Rattle.drifters_eqf.specs.declared.filter.EqFilter.{EqFilter}
 use Rattle.drifters_eqf.specs.declared.filter.Answer.{Answer}
 use Rattle.drifters_eqf.specs.declared.filter.Answered.{Answered}
-use Rattle.drifters_entry.specs.declared.kind.Kind.{Kind}
-use Rattle.drifters_entry.specs.declared.kind.Kind.the-variants.{Propagate, Position, Velocity, Direction, General, State}
+use Rattle.drifters_kind.specs.declared.kind.Kind.{Kind}
+use Rattle.drifters_kind.specs.declared.kind.Kind.the-variants.{Propagate, Position, Velocity, Direction, General, State, Scalar}
 use Rattle.drifters_entry.proofs.RoundTrips.{roundTrips, length-toRun, length-stateToRun, sized-fromRun}
 use Rattle.drifters_demands.proofs.Sizes.{sized-propagate, sized-update, sized-navState}
 use Rattle.drifters_demands.proofs.Signs.GroupRecords.{LikeState, LikeInput}
@@ -121,6 +122,15 @@ module _ {v w : List Float} (h : LikeList plain 25 v w) where
     mag = vector 22 (lit< tt);
   }
 
+-- the first n numbers as one row, which takes no sign of its own
+like-row : {τ : ℕ → Bool} {v w : List Float} (n : ℕ) → LikeList τ n v w → LikeMatrix plain τ 1 n (take n v) (take n w)
+like-row {τ} {v} {w} n h = record {
+  entry = λ i j I J.
+      let z : i ≡ 0 = omega arith in
+      let k : 0 * n + j ≡ j = omega arith in
+      rw (z, k, getD-take n v j nan J, getD-take n w j nan J) (like-as (sym (not-not (τ j))) (h .entry j J));
+}
+
 module _ {s : Signs} {v w : List Float} where
   -- nine numbers of noise, after three and after six others
   like-noise : LikeList (noiseSigns s) 9 v w → LikeMatrix (axis s) (axis s) 3 3 (take 9 v) (take 9 w)
@@ -144,6 +154,20 @@ module _ {s : Signs} {v w : List Float} where
       (like-part (axis s) (axis s) 3 3
       (like-rest 3 9 (axis s) (noiseSigns s) (like-rest 63 12 (matrixSigns 21 (axis s) (axis s)) (thenSigns 3 (axis s) (noiseSigns s)) h)))
 
+module _ (s : Signs) {v w : List Float} where
+  -- the innovation and the variance of a scalar update, o numbers after its row
+  after-row : (o : ℕ) → o < 2 → LikeList (callSigns Scalar s) 23 v w → LikeList plain 1 (drop o (drop 21 v)) (drop o (drop 21 w))
+  after-row o O h = record {
+    entry = λ i I. rw (getD-drop o (drop 21 v) i nan, getD-drop o (drop 21 w) i nan) (like-rest 21 2 (axis s) plain h .entry (o + i) (omega arith));
+  }
+
+  like-scalar : LikeList (callSigns Scalar s) 23 v w
+      → LikeMeasurement plain s 1 (record { output = part v 0 21; innovation = part v 21 1 }) (record { output = part w 0 21; innovation = part w 21 1 })
+  like-scalar h = record { output = like-row 21 (like-first 21 2 (axis s) plain h); innovation = like-take (after-row 0 (lit< tt) h) }
+
+  variance-scalar : LikeList (callSigns Scalar s) 23 v w → LikeMatrix plain plain 1 1 (part v 22 1) (part w 22 1)
+  variance-scalar h = rw (← drop-drop 1 21 v, ← drop-drop 1 21 w) (like-row 1 (after-row 1 (lit< tt) h))
+
 -- ---- what a call asks
 
 -- a kind's numbers that take its signs ask for what is alike
@@ -165,6 +189,7 @@ like-request {s} F Direction h =
     (noise-after-six plain (axis s) h) (F .alpha)
 like-request F General h = like-measurement (like-general h) (noise-general h) (F .alpha)
 like-request F State h = like-estimate
+like-request {s} F Scalar h = like-measurement (like-scalar s h) (variance-scalar s h) (F .alpha)
 
 -- what is alike asked comes to what is alike
 like-performed : {s : Signs} {f g : EqFilter} {r q : Request} {run run' written written' : List Float} → LikeFilter s noTurn noTurn f g → SizedFilter f → SizedFilter g

@@ -1,35 +1,30 @@
 -- The definitions of Gcu.antt keep `LikeMatrix`, with any signs of the measured numbers. Assumes nothing.
 use mathlib.Core.Path.{_≡_, refl}
-use mathlib.Core.Bool.{Bool, true, false}
+use mathlib.Core.Bool.{Bool, false}
 use mathlib.Core.List.{List}
 use Prim.Native.Nat.{ℕ}
 use lib.IntN.{pos}
-use lib.Ieee.{Float, nan, fin, neg, add, ofBits}
+use lib.Ieee.{Float, fin, add, ofBits}
 use Rattle.drifters_real.specs.Scalar.{_⊕_, plusZero, one}
 use Rattle.drifters_real.specs.Real.{sqrt, max}
 use Rattle.drifters_matrix.specs.Matrix.{addMatrix}
-use Rattle.drifters_cholesky.specs.Cholesky.{Factor, cholesky}
+use Rattle.drifters_cholesky.specs.Cholesky.{Factor, definite, entriesOf, cholesky}
 use Rattle.drifters_demands.specs.Like.{Like, LikeList, LikeMatrix}
 use Rattle.drifters_demands.proofs.Signs.Like.{finZero, respects, isZero, exact, cond-keeps, like-refl, like-fin-zeros, like-cond}
 use Rattle.drifters_demands.proofs.Signs.Ops.{like-add, like-mul, like-mul-same, like-div-equal}
 use Rattle.drifters_demands.proofs.Signs.Compare.{like-lt, like-eq-zero}
 use Rattle.drifters_demands.proofs.Signs.Real.{like-sqrt, like-max, like-clamp}
-use Rattle.drifters_demands.proofs.Signs.Matrix.{like-scaled, like-addMatrix, like-sumTerms, like-mulTranspose, like-column, like-of-column}
+use Rattle.drifters_demands.proofs.Signs.Matrix.{like-zeros, like-scaled, like-addMatrix, like-sumTerms, like-mulTranspose, like-column, like-of-column}
 use Rattle.drifters_demands.proofs.Signs.Cholesky.{LikeLower, LikeFactor, like-none, like-lower, like-cholesky, like-solve}
-use Rattle.drifters_eqf.specs.Gcu.{definite, entriesOf, dotVector, beta, nis, inflatedBy, inflate}
+use Rattle.drifters_gcu.specs.Gcu.{dotVector, beta, nis, inflatedBy, inflate}
 
--- ---- factors; none has no entries, and a missing entry is not a number, which has no sign
-like-nan : {s : Bool} → Like s nan nan
-unfolding neg
-like-nan {s = true} = record { same = refl }
-like-nan {s = false} = record { same = refl }
-
+-- ---- factors
 pub like-definite : {σ : ℕ → Bool} {n d : ℕ} {f f' : Factor} → LikeFactor σ n d f f' → definite f ≡ definite f'
 like-definite like-none = refl
 like-definite (like-lower h) = refl
 
-pub like-entriesOf : {σ : ℕ → Bool} {n : ℕ} {f f' : Factor} → LikeFactor σ n n f f' → LikeLower σ n n (entriesOf f) (entriesOf f')
-like-entriesOf like-none = record { alike = record { entry = λ i j I J. like-nan }; pivots = λ i I. refl }
+pub like-entriesOf : {σ : ℕ → Bool} {n : ℕ} {f f' : Factor} → LikeFactor σ n n f f' → LikeLower σ n n (entriesOf n f) (entriesOf n f')
+like-entriesOf like-none = record { alike = like-zeros; pivots = λ i I. refl }
 like-entriesOf (like-lower h) = h .lowers
 
 -- ---- numbers

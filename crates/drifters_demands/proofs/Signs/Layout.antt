@@ -18,7 +18,8 @@ use Rattle.drifters_demands.proofs.Signs.Matrix.{like-flat, like-matrix
 use Rattle.drifters_demands.proofs.Signs.Vec3.{below-three}
 use Rattle.drifters_lie.specs.Lie.{vec3At}
 use Rattle.drifters_demands.specs.Turn.{plain, thenSigns, matrixSigns, rowSigns, filterSigns, stateSigns, turned}
-use Rattle.drifters_entry.specs.Layout.{velocityPlace, positionPlace, gammaPlace, deltaPlace, ePlace, sigmaPlace, gravityPlace, alphaPlace, filterLength, biasPlace, leverPlace, magPlace, stateLength, fromRun, stateFromRun}
+use Rattle.drifters_entry.specs.Layout.{velocityPlace, positionPlace, gammaPlace, deltaPlace, ePlace, sigmaPlace, gravityPlace, alphaPlace, filterLength, biasPlace, leverPlace, magPlace, fromRun, stateFromRun}
+use Rattle.drifters_kind.specs.Kind.{stateLength}
 use Rattle.drifters_demands.proofs.Signs.GroupRecords.{axis-noTurn, LikeState}
 use Rattle.drifters_demands.proofs.Signs.FilterRecords.{LikeFilter}
 

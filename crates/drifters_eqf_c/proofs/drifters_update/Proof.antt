@@ -1,6 +1,6 @@
 -- `drifters_update` meets its contract.
 use borrow.Author.Needs.{needs}
-use Rattle.drifters_entry.specs.declared.kind.Kind.the-variants.{General}
+use Rattle.drifters_kind.specs.declared.kind.Kind.the-variants.{General}
 use Rattle.drifters_eqf_c.proofs.Coded.{update-refused, update-coded}
 use Rattle.drifters_eqf_c.proofs.drifters_update.Statement.{statement}
 use Rattle.drifters_eqf_c.proofs.drifters_update.Tie as tie

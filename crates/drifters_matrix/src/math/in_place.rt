@@ -35,6 +35,14 @@ pub fn mul_transpose21(a: &[f64; 441], b: &[f64; 441], out: &mut [f64; 441])
     }
 }
 
+// The 1 by 21 matrix `a` times `b`, into `out`.
+pub fn matmul1x21(a: &[f64; 21], b: &[f64; 441], out: &mut [f64; 21])
+    ensures { λ _. ⌜ now (out .exit) ≡ matmul 1 21 21 (now (a .entry)) (now (b .entry)) ⌝ }
+{
+    let mut row = [0.0; 21];
+    matmul_into(a, b, &mut row, out, 1, 21, 21);
+}
+
 // The 3 by 21 matrix `a` times `b`, into `out`.
 pub fn matmul3x21(a: &[f64; 63], b: &[f64; 441], out: &mut [f64; 63])
     ensures { λ _. ⌜ now (out .exit) ≡ matmul 3 21 21 (now (a .entry)) (now (b .entry)) ⌝ }

@@ -24,7 +24,7 @@ pub(crate) fn transpose_into(m: &[f64], out: &mut [f64], r: usize, c: usize)
 }
 
 // +0.0 in every place.
-fn clear(row: &mut [f64])
+pub fn clear(row: &mut [f64])
     ensures { λ _. ⌜ now (row .exit) ≡ zeros (length (now (row .entry))) ⌝ }
 {
     let n = row.len();

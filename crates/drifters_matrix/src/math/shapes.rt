@@ -17,6 +17,11 @@ use crate::math::matrix::set_block_in;
 use crate::math::matrix::sub_in;
 use crate::math::matrix::transpose_into;
 
+// 1 by 1: one measured number, or its variance.
+pub struct Mat1 {
+    pub data: [f64; 1],
+}
+
 // 3 by 3: rotations, skew forms, blocks of three axes.
 pub struct Mat3 {
     pub data: [f64; 9],
@@ -35,6 +40,11 @@ pub struct Mat18 {
 // 21 by 21: the covariance.
 pub struct Mat21 {
     pub data: [f64; 441],
+}
+
+// 1 by 21: the output row of one measured number.
+pub struct Mat1x21 {
+    pub data: [f64; 21],
 }
 
 // 3 by 21: an output matrix.
@@ -67,9 +77,19 @@ pub struct Vector6 {
     pub data: [f64; 6],
 }
 
-// A column of 21.
+// A column of 21; a gain of one measured number is one.
 pub struct Vector21 {
     pub data: [f64; 21],
+}
+
+impl Mat1 {
+    pub fn add(self, rhs: Mat1) -> Mat1
+        ensures { λ r. ⌜ r .data ≡ addMatrix 1 (self .data) (rhs .data) ⌝ }
+    {
+        let mut data = self.data;
+        add_in(&mut data, &rhs.data, 1);
+        Mat1 { data }
+    }
 }
 
 impl Mat3 {
@@ -274,6 +294,26 @@ impl Mat21 {
     }
 }
 
+impl Mat1x21 {
+    pub fn transpose(self) -> Vector21
+        ensures { λ r. ⌜ r .data ≡ transpose 1 21 (self .data) ⌝ }
+    {
+        let mut data = [0.0; 21];
+        transpose_into(&self.data, &mut data, 1, 21);
+        Vector21 { data }
+    }
+
+    pub fn mul_transpose(self, rhs: Mat1x21) -> Mat1
+        ensures { λ r. ⌜ r .data ≡ mulTranspose 1 21 1 (self .data) (rhs .data) ⌝ }
+    {
+        let mut t = [0.0; 21];
+        let mut row = [0.0; 1];
+        let mut data = [0.0; 1];
+        mul_transpose_into(&self.data, &rhs.data, &mut t, &mut row, &mut data, 1, 21, 1);
+        Mat1 { data }
+    }
+}
+
 impl Mat3x21 {
     pub fn zeros() -> Mat3x21
         ensures { λ r. ⌜ r .data ≡ zeros 63 ⌝ }
@@ -453,6 +493,43 @@ impl Vector3 {
 }
 
 impl Vector21 {
+    pub fn matmul1(self, rhs: Mat1) -> Vector21
+        ensures { λ r. ⌜ r .data ≡ matmul 21 1 1 (self .data) (rhs .data) ⌝ }
+    {
+        let mut row = [0.0; 1];
+        let mut data = [0.0; 21];
+        matmul_into(&self.data, &rhs.data, &mut row, &mut data, 21, 1, 1);
+        Vector21 { data }
+    }
+
+    pub fn matmul21(self, rhs: Mat1x21) -> Mat21
+        ensures { λ r. ⌜ r .data ≡ matmul 21 1 21 (self .data) (rhs .data) ⌝ }
+    {
+        let mut row = [0.0; 21];
+        let mut data = [0.0; 441];
+        matmul_into(&self.data, &rhs.data, &mut row, &mut data, 21, 1, 21);
+        Mat21 { data }
+    }
+
+    pub fn mul_transpose(self, rhs: Vector21) -> Mat21
+        ensures { λ r. ⌜ r .data ≡ mulTranspose 21 1 21 (self .data) (rhs .data) ⌝ }
+    {
+        let mut t = [0.0; 21];
+        let mut row = [0.0; 21];
+        let mut data = [0.0; 441];
+        mul_transpose_into(
+            &self.data,
+            &rhs.data,
+            &mut t,
+            &mut row,
+            &mut data,
+            21,
+            1,
+            21,
+        );
+        Mat21 { data }
+    }
+
     pub fn sub(self, rhs: Vector21) -> Vector21
         ensures { λ r. ⌜ r .data ≡ subMatrix 21 (self .data) (rhs .data) ⌝ }
     {

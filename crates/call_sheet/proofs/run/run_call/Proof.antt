@@ -9,11 +9,10 @@ use lib.Seq.{length-take-le, take-at}
 use lib.Ieee.{Float}
 use Rattle.drifters_matrix.specs.Matrix.{zeros}
 use Rattle.drifters_real.specs.Scalar.{plusZero}
-use Rattle.drifters_entry.specs.Layout.{stateLength}
-use Rattle.drifters_entry.specs.Kind.{mostCallNumbers}
+use Rattle.drifters_kind.specs.Kind.{stateLength, mostCallNumbers}
 use Rattle.drifters_entry.specs.Entry.{Outcome, call}
 use Rattle.little_endian.proofs.Numbers.{numbers-in-place}
-use Rattle.drifters_entry.proofs.KindLaws.{call-most, written-most}
+use Rattle.drifters_kind.proofs.ByNumber.{call-most, written-most}
 use Rattle.call_sheet.proofs.run.run_call.Statement.{statement}
 use Rattle.call_sheet.proofs.run.run_call.Tie as tie
 

@@ -10,10 +10,10 @@ use borrow.Author.Needs.{needs}
 use lib.ListN.{length, getD, take, drop, length-drop, drop-of-length-le}
 use lib.Seq.{drop-drop}
 use lib.Ieee.{Float}
-use Rattle.drifters_entry.specs.Kind.{callLength, kindOf, found}
+use Rattle.drifters_kind.specs.Kind.{callLength, kindOf, found}
 use Rattle.drifters_entry.specs.Log.{outcomeOn, entriesFrom}
 use Rattle.drifters_eqf.specs.declared.filter.Answer.{Answer}
-use Rattle.drifters_entry.specs.declared.kind.Kind.{Kind}
+use Rattle.drifters_kind.specs.declared.kind.Kind.{Kind}
 use Rattle.little_endian.specs.Bytes.{placed}
 use Rattle.call_sheet.specs.Sheet.{SheetCall, sheetCall, isSome, callsIn}
 use Rattle.call_sheet.specs.Text.{callOf, lineText, linesText, linesOf}

@@ -10,7 +10,7 @@ use lib.ListN.{length, take, drop, replicate, length-map}
 use lib.Seq.{take-at}
 use lib.Ieee.{Float}
 use Rattle.drifters_entry.specs.Layout.{filterLength}
-use Rattle.drifters_entry.specs.Kind.{kindNumber}
+use Rattle.drifters_kind.specs.Kind.{kindNumber}
 use Rattle.call_sheet.specs.declared.sheet.Filled.{Filled}
 use Rattle.call_sheet.specs.declared.sheet.Filled.the-variants.{Length, Refused}
 use Rattle.little_endian.specs.Bytes.{placed}

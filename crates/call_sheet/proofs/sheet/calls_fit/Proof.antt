@@ -3,8 +3,8 @@ use Prim.Native.Nat.{_+_, _-_, _*_, _≤_}
 use mathlib.Core.Path.{_≡_, refl, sym, ap, _∙_}
 use native.Mathlib.Omega.{arith}
 use borrow.Author.Needs.{needs}
-use Rattle.drifters_entry.specs.Kind.{mostCallNumbers, kindOf, found}
-use Rattle.drifters_entry.proofs.KindLaws.{call-most}
+use Rattle.drifters_kind.specs.Kind.{mostCallNumbers, kindOf, found}
+use Rattle.drifters_kind.proofs.ByNumber.{call-most}
 use Rattle.call_sheet.specs.Sheet.{filterEnd, callsAt, isSome}
 use Rattle.call_sheet.proofs.SheetLayout.{no-some, no-calls, calls-step, calls-end}
 use Rattle.call_sheet.proofs.sheet.calls_fit.Statement.{statement}

@@ -5,7 +5,7 @@ use Prim.Native.Nat.{ℕ, _+_}
 use native.Mathlib.Omega.{arith}
 use borrow.Author.Needs.{needs}
 use lib.ListN.{length}
-use Rattle.drifters_entry.specs.declared.kind.Form.{Form}
+use Rattle.drifters_kind.specs.declared.kind.Form.{Form}
 use Rattle.little_endian.specs.Bytes.{placed}
 use Rattle.call_sheet.specs.Digits.{decimal}
 use Rattle.call_sheet.proofs.Digits.{kind-digit}

@@ -9,11 +9,11 @@ use lib.Ieee.{Float}
 use Rattle.drifters_eqf.specs.Filter.{Measurement, measurement3}
 use Rattle.drifters_eqf.specs.declared.filter.Measurement3.{Measurement3}
 use Rattle.drifters_entry.specs.Layout.{part, fromRun}
-use Rattle.drifters_entry.specs.Kind.{callLength}
+use Rattle.drifters_kind.specs.Kind.{callLength}
 use Rattle.drifters_entry.specs.Entry.{measurement, requestOf}
 use Rattle.drifters_entry.specs.Asked.{asRequest, Readable}
-use Rattle.drifters_entry.specs.declared.kind.Kind.{Kind}
-use Rattle.drifters_entry.specs.declared.kind.Kind.the-variants.{Propagate, Position, Velocity, Direction, General, State}
+use Rattle.drifters_kind.specs.declared.kind.Kind.{Kind}
+use Rattle.drifters_kind.specs.declared.kind.Kind.the-variants.{Propagate, Position, Velocity, Direction, General, State, Scalar}
 use Rattle.drifters_entry.specs.declared.entry.Asked.{Asked}
 use Rattle.drifters_entry.specs.declared.entry.Action.{Action}
 use Rattle.drifters_entry.specs.declared.entry.Action.the-variants as action
@@ -25,7 +25,7 @@ module _ (K : Kind) (run v : List Float) (r : Asked) {kind : Kind} (told : kind 
   abbrev Asks : Type 0
   Asks = (asRequest (r .action) r (fromRun run) v ≡ requestOf kind (fromRun run) v) × Readable (r .action) r v
 
-  -- nothing is measured
+  -- nothing stands beside the action
   unmeasured-asked : (a : Action) → r .action ≡ a → asRequest a r (fromRun run) v ≡ requestOf K (fromRun run) v → Readable a r v → Asks
   unmeasured-asked a e asks reads = (
     ap (λ (x : Action). asRequest x r (fromRun run) v) e ∙ asks ∙ ap (λ (k : Kind). requestOf k (fromRun run) v) (sym told),
@@ -71,6 +71,12 @@ returns-5 c =
 returns-6 : tie.Need-returns-6
 returns-6 c = unmeasured-asked State _ _ (c .unmeasured2 .result) (c .before .enum-told6 .given .1) action.Estimate (c .unmeasured2 .ensures) refl tt
 
+returns-7 : tie.Need-returns-7
+returns-7 c =
+    let t = c .before in
+    let told = t .enum-told7 .given .1 in
+    unmeasured-asked Scalar _ _ (c .unmeasured3 .result) told action.Update1 (c .unmeasured3 .ensures) refl (t .before .before .before .before .pre .1 ∙ ap callLength told)
+
 pub asked-by-spec : {M : Type 1} → statement M
 asked-by-spec =
     tie.close
@@ -91,9 +97,12 @@ asked-by-spec =
     (λ c κs. tt)
     (λ c. search needs)
     (λ c κs. tt)
+    (λ c. search needs)
+    (λ c κs. tt)
     returns
     returns-2
     returns-3
     returns-4
     returns-5
-    returns-6)
+    returns-6
+    returns-7)

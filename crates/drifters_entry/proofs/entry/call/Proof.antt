@@ -6,7 +6,6 @@ use Rattle.drifters_entry.specs.Layout.{fromRun}
 use Rattle.drifters_entry.specs.Entry.{requestOf}
 use Rattle.drifters_entry.specs.Asked.{asRequest, Readable}
 use Rattle.drifters_entry.specs.declared.entry.Action.{Action}
-use Rattle.drifters_entry.specs.declared.entry.Action.the-variants.{Propagate, Update3, Estimate}
 use Rattle.drifters_entry.proofs.Calls.{Passed, passed, call-refused, asked-length, call-asked, call-made}
 use Rattle.drifters_entry.proofs.entry.call.Statement.{statement}
 use Rattle.drifters_entry.proofs.entry.call.Tie as tie
@@ -49,14 +48,22 @@ returns-3 c =
     let u = c .before .before in
     let t = u .before .before .before in
     let k = t .before .before in
-    call-made _ _ _ _ (asks k (t .enum-told2 .given .1) .0) (fits (k .before .before)) refl (u .update-by .ensures)
+    call-made _ _ _ _ (asks k (t .enum-told2 .given .1) .0) (fits (k .before .before)) refl (u .update-scalar-by .ensures)
 
 returns-4 : tie.Need-returns-4
+unfolding fromRun
 returns-4 c =
+    let u = c .before .before in
+    let t = u .before .before .before in
+    let k = t .before .before in
+    call-made _ _ _ _ (asks k (t .enum-told3 .given .1) .0) (fits (k .before .before)) refl (u .update-by .ensures)
+
+returns-5 : tie.Need-returns-5
+returns-5 c =
     let w = c .before .before in
     let t = w .before .before .before in
     let k = t .before .before in
-    call-asked _ _ _ _ (asks k (t .enum-told3 .given .1) .0) (fits (k .before .before)) (w .write-estimate .ensures)
+    call-asked _ _ _ _ (asks k (t .enum-told4 .given .1) .0) (fits (k .before .before)) (w .write-estimate .ensures)
 
 pub call-spec : {M : Type 1} → statement M
 call-spec =
@@ -73,15 +80,20 @@ call-spec =
     (λ c. omega (arith, fits (c .before .before .before .before .before) .run-length))
     (λ c κs. let t = c .before .before in let k = t .before .before in (asks k (t .enum-told2 .given .1) .1, fits (k .before .before) .run-length))
     (λ c. search needs)
+    (λ c. omega (arith, fits (c .before .before .before .before .before) .run-length))
+    (λ c κs. let t = c .before .before in let k = t .before .before in (asks k (t .enum-told3 .given .1) .1, fits (k .before .before) .run-length))
+    (λ c. search needs)
     (λ c κs.
     let t = c .before .before in
     let k = t .before .before in
     let p = fits (k .before .before) in
-    (p .run-length, asked-length _ _ _ _ (asks k (t .enum-told3 .given .1) .0) p, p .run-finite))
+    (p .run-length, asked-length _ _ _ _ (asks k (t .enum-told4 .given .1) .0) p, p .run-finite))
     (λ c. search needs)
     returns-2
     (λ c. search needs)
     returns-3
     (λ c. search needs)
+    returns-4
     (λ c. search needs)
-    returns-4)
+    (λ c. search needs)
+    returns-5)

@@ -9,8 +9,8 @@ use Rattle.drifters_matrix.specs.Matrix.{tab}
 use Rattle.drifters_core.specs.Vec3.{toArray}
 use Rattle.drifters_lie.specs.Lie.{vec3At}
 use Rattle.drifters_entry.specs.Layout.{part}
-use Rattle.drifters_entry.specs.Kind.{callLength}
-use Rattle.drifters_entry.specs.declared.kind.Kind.the-variants.{General}
+use Rattle.drifters_kind.specs.Kind.{callLength}
+use Rattle.drifters_kind.specs.declared.kind.Kind.the-variants.{General}
 use Rattle.drifters_entry.proofs.Parts.{tab-part}
 use Rattle.drifters_entry.proofs.entry.general.Statement.{statement}
 use Rattle.drifters_entry.proofs.entry.general.Tie as tie

@@ -1,7 +1,7 @@
 -- `entry::nav_state` meets its contract.
 use mathlib.Core.List.{[]}
 use borrow.Author.Needs.{needs}
-use Rattle.drifters_entry.specs.declared.kind.Kind.the-variants.{State}
+use Rattle.drifters_kind.specs.declared.kind.Kind.the-variants.{State}
 use Rattle.drifters_entry.proofs.Calls.{Passed, passed, call-refused, call-passed}
 use Rattle.drifters_entry.proofs.entry.nav_state.Statement.{statement}
 use Rattle.drifters_entry.proofs.entry.nav_state.Tie as tie

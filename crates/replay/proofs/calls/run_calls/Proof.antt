@@ -4,8 +4,8 @@ use Prim.Native.Nat.{_*_, _-_, _≤_}
 use native.Mathlib.Omega.{arith}
 use borrow.Author.Needs.{needs}
 use lib.ListN.{length}
-use Rattle.drifters_entry.specs.Kind.{mostCallNumbers}
-use Rattle.drifters_entry.proofs.KindLaws.{call-most}
+use Rattle.drifters_kind.specs.Kind.{mostCallNumbers}
+use Rattle.drifters_kind.proofs.ByNumber.{call-most}
 use Rattle.replay.proofs.calls.run_calls.Statement.{statement}
 use Rattle.replay.proofs.calls.run_calls.Tie as tie
 

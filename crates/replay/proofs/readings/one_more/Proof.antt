@@ -1,7 +1,7 @@
 -- `readings::one_more` meets its contract.
 use native.Mathlib.Omega.{arith}
 use borrow.Author.Needs.{needs}
-use Rattle.drifters_entry.proofs.KindLaws.{call-most}
+use Rattle.drifters_kind.proofs.ByNumber.{call-most}
 use Rattle.replay.proofs.readings.one_more.Statement.{statement}
 use Rattle.replay.proofs.readings.one_more.Tie as tie
 

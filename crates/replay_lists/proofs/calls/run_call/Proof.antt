@@ -5,9 +5,8 @@ use native.Mathlib.Omega.{arith}
 use borrow.Author.Needs.{needs}
 use lib.ListN.{length}
 use lib.Seq.{length-take-le}
-use Rattle.drifters_entry.specs.Layout.{stateLength}
-use Rattle.drifters_entry.specs.Kind.{mostCallNumbers}
-use Rattle.drifters_entry.proofs.KindLaws.{call-most, written-most}
+use Rattle.drifters_kind.specs.Kind.{stateLength, mostCallNumbers}
+use Rattle.drifters_kind.proofs.ByNumber.{call-most, written-most}
 use Rattle.replay_lists.proofs.calls.run_call.Statement.{statement}
 use Rattle.replay_lists.proofs.calls.run_call.Tie as tie
 

@@ -1,0 +1,26 @@
+-- `drifters_update_scalar` meets its contract.
+use borrow.Author.Needs.{needs}
+use Rattle.drifters_kind.specs.declared.kind.Kind.the-variants.{Scalar}
+use Rattle.drifters_eqf_c.proofs.Coded.{update-refused, update-coded}
+use Rattle.drifters_eqf_c.proofs.drifters_update_scalar.Statement.{statement}
+use Rattle.drifters_eqf_c.proofs.drifters_update_scalar.Tie as tie
+
+returns : tie.Need-returns
+returns c = update-refused Scalar _ _ _ (c .if1 .taken)
+
+returns-2 : tie.Need-returns-2
+returns-2 c =
+    let told = c .before .before in
+    let made = told .before .before .before .before in
+    update-coded Scalar _ _ _ (made .before .before .if1 .left) (made .update-scalar .ensures) (told .give-nis .ensures)
+
+pub drifters-update-scalar-spec : {M : Type 1} → statement M
+drifters-update-scalar-spec =
+    tie.close
+    (tie.spec
+    returns
+    (λ c κs. tt)
+    (λ c κs. c .before .before .before .before .before .if1 .left)
+    (λ c. search needs)
+    (λ c. search needs)
+    returns-2)

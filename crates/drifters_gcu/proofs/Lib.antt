@@ -1,0 +1,2 @@
+-- The laws that the proof of the inflation rests on.
+pub mod Inflation

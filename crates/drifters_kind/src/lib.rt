@@ -1,0 +1,2 @@
+// The kinds of call, by which a filter is used.
+pub mod kind;
