@@ -32,9 +32,9 @@
 #include <stdint.h>
 
 #define DRIFTERS_VERSION_MAJOR 0
-#define DRIFTERS_VERSION_MINOR 3
+#define DRIFTERS_VERSION_MINOR 4
 #define DRIFTERS_VERSION_PATCH 0
-#define DRIFTERS_VERSION "0.3.0"
+#define DRIFTERS_VERSION "0.4.0"
 
 /* Codes; drifters_code_meaning, below, says what each means. */
 #define DRIFTERS_OK 0u
@@ -44,6 +44,7 @@
 #define DRIFTERS_REFUSED_PIVOT 4u
 #define DRIFTERS_REFUSED_RANGE 5u
 #define DRIFTERS_REFUSED_SHEET 6u /* no function answers it: it stands in the text of a broken sheet, "refused 6" */
+#define DRIFTERS_REFUSED_NULL 7u /* of a direction alone; DRIFTERS_KIND_SCALAR, which is 7 too, is something else */
 
 /* drifters_code_word and drifters_code_meaning are in this file, not in the library. */
 #if defined(__cplusplus) || (defined(__STDC_VERSION__) && __STDC_VERSION__ >= 199901L)
@@ -65,6 +66,7 @@ DRIFTERS_INLINE const char *drifters_code_word(uint32_t code)
     case DRIFTERS_REFUSED_PIVOT: return "pivot";
     case DRIFTERS_REFUSED_RANGE: return "range";
     case DRIFTERS_REFUSED_SHEET: return "sheet";
+    case DRIFTERS_REFUSED_NULL: return "null";
     default: return "unknown";
     }
 }
@@ -85,6 +87,8 @@ DRIFTERS_INLINE const char *drifters_code_meaning(uint32_t code)
     case DRIFTERS_REFUSED_RANGE: return "a result is not finite; check the units and sizes of the numbers";
     case DRIFTERS_REFUSED_SHEET:
         return "a call sheet breaks its layout or cannot be read; check how it was built";
+    case DRIFTERS_REFUSED_NULL:
+        return "a direction's measured vector or north has norm 0; check that the compass is on and that north is set";
     default: return "no code of this library";
     }
 }
@@ -213,7 +217,7 @@ uint32_t drifters_propagate(double *filter, size_t filter_length, const double *
  * number. Where the filter is consistent, the NIS is about 3 on average; for a direction about 2, for a scalar update
  * about 1. The filter's alpha, clamped to 0..1 by the call, says how a surprising measurement is taken: at 0 nearly at
  * full weight, at 1 least. The original's None is code 4. Codes: 1 (nis not 1, filter not 478, numbers not as stated),
- * 2, 4, 3, 5, tested in this order. */
+ * 2, 4, 3, 5, tested in this order; a direction has 7 too, between 2 and 4. */
 
 /* By a GNSS antenna position; numbers: 12. */
 uint32_t drifters_update_position(double *filter, size_t filter_length, const double *numbers, size_t numbers_length,
@@ -223,7 +227,9 @@ uint32_t drifters_update_position(double *filter, size_t filter_length, const do
 uint32_t drifters_update_velocity(double *filter, size_t filter_length, const double *numbers, size_t numbers_length,
                                   double *nis, size_t nis_length);
 
-/* By a magnetometer direction, against the known direction north; both are normalised. numbers: 15. */
+/* By a magnetometer direction, against the known direction north; both are normalised. numbers: 15. Codes: 1, 2, 7, 4,
+ * 3, 5, tested in this order. 7: measured or north has norm 0. The square of each of its numbers is then 0, as that of
+ * every number is whose size is at most about 1.57e-162. */
 uint32_t drifters_update_direction(double *filter, size_t filter_length, const double *numbers, size_t numbers_length,
                                    double *nis, size_t nis_length);
 

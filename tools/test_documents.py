@@ -141,6 +141,13 @@ class Manual(unittest.TestCase):
                 self.assertLess(below(n * (limit - 0.006), n * axes), part)
                 self.assertGreater(below(n * (limit + 0.006), n * axes), part)
 
+    def test_the_limits_of_a_norm(self):
+        """The square is 0 up to 1.57e-162, and finite up to 1.3e154: it is neither a little above."""
+        for largest, above, holds in [("1.57e-162", 1.58e-162, lambda x: x * x == 0), ("1.3e154", 1.4e154, lambda x: x * x < math.inf)]:
+            self.assertIn(f"about {largest}", self.manual)
+            self.assertTrue(holds(float(largest)))
+            self.assertFalse(holds(above))
+
     def test_the_drawing(self):
         drawing = xml.etree.ElementTree.fromstring(content("docs/frames.svg"))
         words = " ".join(" ".join(text.itertext()) for text in drawing.iter("{http://www.w3.org/2000/svg}text"))

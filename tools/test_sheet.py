@@ -436,6 +436,25 @@ expected: about, where the filter is consistent; general: 3 where it measures th
         self.told("line 1: '1 7 ok' is no answer of entry 1, scalar, of kind 7", sheet.answers_of, b"1 7 ok\n",
                   parsed(FILTER, line))
 
+    def test_directions_of_norm_0(self):
+        """Zeros are built as any other numbers. Refusal 7 is of a direction alone, and not of kind 7."""
+        lines = [f"direction measured={measured} north={north} noise=1"
+                 for measured, north in [("zero", "0.5,0,1"), ("1,0,0", "-0.0,0,0")]]
+        self.assertEqual(self.shown([FILTER, *lines], ["refused 7", "refused 7"])[-7:], [
+            "entry  call       answer          numbers",
+            "1      direction  refused 7 null  measured 0 0 0; north 0.5 0 1; noise 1 0 0 0 1 0 0 0 1",
+            "2      direction  refused 7 null  measured 1 0 0; north -0 0 0; noise 1 0 0 0 1 0 0 0 1",
+            "",
+            "update     accepted  refused  mean NIS  expected",
+            "direction  0         2        -         2",
+            "expected: about, where the filter is consistent; general: 3 where it measures three numbers"])
+        for line in (PROPAGATE, "position antenna=zero noise=1", "velocity antenna=zero omega=zero noise=1", GENERAL,
+                     "state", SCALAR):
+            entries = parsed(FILTER, line)
+            kind, name = entries[1][0], line.split()[0]
+            self.told(f"line 1: '1 {kind} refused 7' is no answer of entry 1, {name}, of kind {kind}",
+                      sheet.answers_of, f"1 {kind} refused 7\n".encode(), entries)
+
     def test_densities_of_zero_are_left_out(self):
         line = PROPAGATE.replace("density.accel=zero", "density.accel=0,0,2")
         self.assertEqual(self.shown([FILTER, line])[-1],
@@ -446,14 +465,15 @@ expected: about, where the filter is consistent; general: 3 where it measures th
         calls = [("position antenna=zero noise=1", three), ("state", "ok"), ("position antenna=zero noise=1", one),
                  ("position antenna=zero noise=1", "refused 2"),
                  ("velocity antenna=zero omega=zero noise=1", "refused 4"),
-                 ("direction measured=zero north=zero noise=1", one), (GENERAL, "7FEFFFFFFFFFFFFF"),
+                 ("direction measured=1,0,0 north=0,1,0 noise=1", one),
+                 ("direction measured=zero north=0,1,0 noise=1", "refused 7"), (GENERAL, "7FEFFFFFFFFFFFFF"),
                  (GENERAL, "7FEFFFFFFFFFFFFF"), ("state", "refused 5"), (SCALAR, one), (SCALAR, "refused 3")]
         lines = self.shown([FILTER, *(line for line, _ in calls)], [answer for _, answer in calls])
         self.assertEqual(lines[-7:], [
             "update     accepted  refused  mean NIS      expected",
             "position   2         1        2             3",
             "velocity   0         1        -             3",
-            "direction  1         0        1             2",
+            "direction  1         1        1             2",
             "general    2         0        1.79769e+308  3",
             "scalar     1         1        1             1",
             "expected: about, where the filter is consistent; general: 3 where it measures three numbers"])
@@ -463,9 +483,9 @@ expected: about, where the filter is consistent; general: 3 where it measures th
 
     def test_csv(self):
         text = [FILTER, "position antenna=0.1,inf,-0.0 noise=1", "state", "position antenna=1e-320,0,0 noise=0.3",
-                "position antenna=nan,0,0 noise=0"]
+                "position antenna=nan,0,0 noise=0", "direction measured=zero north=0,0,1 noise=1"]
         made = self.file("sheet.bin", sheet.pack(parsed(*text)))
-        answers = self.file("answers", b"1 2 3FD3333333333334\n2 6 ok\n3 2 refused 4\n4 2 refused 2\n")
+        answers = self.file("answers", b"1 2 3FD3333333333334\n2 6 ok\n3 2 refused 4\n4 2 refused 2\n5 4 refused 7\n")
         status, out, err = run("show", "--csv", made, answers)
         self.assertEqual((status, err), (0, ""))
         self.assertEqual(out.decode().splitlines(), [
@@ -473,11 +493,12 @@ expected: about, where the filter is consistent; general: 3 where it measures th
             "1,2,position,3FD3333333333334,0.30000000000000004,,0.1 inf -0.0 1.0 0.0 0.0 0.0 1.0 0.0 0.0 0.0 1.0",
             "2,6,state,ok,,,",
             "3,2,position,refused 4,,4 pivot,1e-320 0.0 0.0 0.3 0.0 0.0 0.0 0.3 0.0 0.0 0.0 0.3",
-            "4,2,position,refused 2,,2 blank,nan 0.0 0.0 0.0 0.0 0.0 0.0 0.0 0.0 0.0 0.0 0.0"])
+            "4,2,position,refused 2,,2 blank,nan 0.0 0.0 0.0 0.0 0.0 0.0 0.0 0.0 0.0 0.0 0.0",
+            "5,4,direction,refused 7,,7 null,0.0 0.0 0.0 0.0 0.0 1.0 1.0 0.0 0.0 0.0 1.0 0.0 0.0 0.0 1.0"])
         self.assertNotIn(b"\r", out)
         status, out, err = run("show", made, "--csv")
         rows = list(csv.DictReader(io.StringIO(out.decode())))
-        self.assertEqual([(row["answer"], row["nis"], row["refusal"]) for row in rows], [("", "", "")] * 4)
+        self.assertEqual([(row["answer"], row["nis"], row["refusal"]) for row in rows], [("", "", "")] * 5)
 
     def test_bad_sheets(self):
         good = content(path("sheet/data/sheet.bin"))
@@ -503,6 +524,7 @@ expected: about, where the filter is consistent; general: 3 where it measures th
             ("2 2 refused 4\n", "line 1: '2 2 refused 4' is no answer of entry 1, position, of kind 2"),
             ("1 2 ok\n", "line 1: '1 2 ok' is no answer of entry 1, position, of kind 2"),
             ("1 2 refused 1\n", "line 1: '1 2 refused 1' is no answer of entry 1, position, of kind 2"),
+            ("1 2 refused 8\n", "line 1: '1 2 refused 8' is no answer of entry 1, position, of kind 2"),
             ("1 2 3ff0000000000000\n", "line 1: '1 2 3ff0000000000000' is no answer of entry 1, position, of kind 2"),
             ("1 2 7FF0000000000000\n", "line 1: '1 2 7FF0000000000000' is no answer of entry 1, position, of kind 2"),
             (f"1 2 {sixteen}\n2 6 {sixteen}\n",

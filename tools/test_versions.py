@@ -1,5 +1,5 @@
 #!/usr/bin/env python3
-"""Tests that files agree: on the version, and the header, tools/sheet, the Rust crate and the manual on places and refusals."""
+"""Tests that files agree: on the version; the header, tools/sheet, the Rust crate and the manual on places and refusals; README.md on refusals."""
 import os
 import re
 import shutil
@@ -215,9 +215,20 @@ class Refusals(unittest.TestCase):
         self.assertEqual(words, [self.numbers[number] for number in range(1, len(words) + 1)])
         self.assertEqual({name: name.lower() for name in self.meanings}, header_refusals("drifters_code_word"))
 
+    def of_calls(self):
+        """The refusals that a call of a sheet can give: a sheet cannot hold a wrong length, and is no call itself."""
+        left_out = ("REFUSED_LENGTH", "REFUSED_SHEET")
+        return {number: name for number, name in self.numbers.items() if name not in left_out}
+
     def test_sheet(self):
-        for digit, word in sheet.REFUSALS.items():
-            self.assertEqual(self.numbers[int(digit)], f"REFUSED_{word.upper()}")
+        found = {int(digit): f"REFUSED_{word.upper()}" for digit, word in sheet.REFUSALS.items()}
+        self.assertEqual(found, self.of_calls())
+
+    def test_readme(self):
+        """The table of answers has each refusal that a sheet's text can have."""
+        table = re.findall(r"^\| `refused (\d)` \| (\w+):", content("README.md"), re.MULTILINE)
+        expected = {**self.of_calls(), 6: "REFUSED_SHEET"}
+        self.assertEqual([(int(number), f"REFUSED_{word.upper()}") for number, word in table], sorted(expected.items()))
 
     def test_rust_crate(self):
         """The meanings are the header's, word for word."""

@@ -140,6 +140,19 @@ impl Filter {
     /// assert!(filter.update_direction(&field.numbers())? < 1e-12);
     /// # Ok::<(), drifters_port::Refusal>(())
     /// ```
+    ///
+    /// A measured or a north of norm 0, such as the zeros of a compass that is switched off, is refused by
+    /// [`Refusal::Null`]. The square of each of its numbers is then 0, as that of every number is whose size is at most
+    /// about 1.57e-162. This is tested after [`Refusal::Blank`] and before [`Refusal::Pivot`].
+    ///
+    /// ```
+    /// # use drifters_port::{diagonal, Direction, Filter, Refusal, Start, State};
+    /// # let start = Start { state: State::default(), sigma: diagonal([0.01; 21]), gravity: [0.0, 0.0, 9.81] };
+    /// # let mut filter = Filter::start(&start.numbers())?;
+    /// let field = Direction { measured: [0.0; 3], north: [20.0, 0.0, 40.0], noise: diagonal([1e-4; 3]) };
+    /// assert_eq!(filter.update_direction(&field.numbers()), Err(Refusal::Null));
+    /// # Ok::<(), drifters_port::Refusal>(())
+    /// ```
     pub fn update_direction(&mut self, numbers: &[f64; DIRECTION_LENGTH]) -> Result<f64, Refusal> {
         self.update_direction_slice(numbers)
     }

@@ -150,9 +150,10 @@ impl VelocityFix {
 /// A direction of the magnetometer. [`Filter::update_direction`](crate::Filter::update_direction) takes its numbers.
 #[derive(Clone, Copy, Debug, PartialEq)]
 pub struct Direction {
-    /// The field's direction, S^T R^T north, compass frame. The call normalises it; zero stays zero.
+    /// The field's direction, S^T R^T north, compass frame. The call normalises it, and refuses one of norm 0 by
+    /// [`Refusal::Null`](crate::Refusal::Null).
     pub measured: [f64; 3],
-    /// The field's known direction, reference frame. The call normalises it; zero stays zero.
+    /// The field's known direction, reference frame. The call normalises it, and refuses one of norm 0 likewise.
     pub north: [f64; 3],
     /// The covariance of north x (R S measured), both of length 1, rad^2, reference frame: of a compass with one variance
     /// on all axes that variance, over the square of the field's strength, times the identity.

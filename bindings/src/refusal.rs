@@ -25,6 +25,9 @@ pub enum Refusal {
     Range = 5,
     /// A call sheet breaks its layout or cannot be read. It stands in a sheet's text only.
     Sheet = 6,
+    /// A direction's measured vector or north has norm 0. Only an update by direction gives it;
+    /// [`kind::SCALAR`](crate::kind::SCALAR), which is 7 too, is something else.
+    Null = 7,
 }
 
 impl Refusal {
@@ -37,11 +40,12 @@ impl Refusal {
             4 => Some(Refusal::Pivot),
             5 => Some(Refusal::Range),
             6 => Some(Refusal::Sheet),
+            7 => Some(Refusal::Null),
             _ => None,
         }
     }
 
-    /// The number, 1 to 6.
+    /// The number, 1 to 7.
     pub fn number(self) -> u32 {
         self as u32
     }
@@ -55,6 +59,7 @@ impl Refusal {
             Refusal::Pivot => "pivot",
             Refusal::Range => "range",
             Refusal::Sheet => "sheet",
+            Refusal::Null => "null",
         }
     }
 
@@ -79,6 +84,10 @@ impl Refusal {
             Refusal::Range => "a result is not finite; check the units and sizes of the numbers",
             Refusal::Sheet => {
                 "a call sheet breaks its layout or cannot be read; check how it was built"
+            }
+            Refusal::Null => {
+                "a direction's measured vector or north has norm 0; \
+                 check that the compass is on and that north is set"
             }
         }
     }

@@ -4,6 +4,7 @@ use crate::*;
 
 mod calls;
 mod deviations;
+mod directions;
 mod inputs;
 mod lengths;
 mod parts;

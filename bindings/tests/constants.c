@@ -110,6 +110,7 @@ static void codes(void)
     CHECK(DRIFTERS_REFUSED_PIVOT == 4);
     CHECK(DRIFTERS_REFUSED_RANGE == 5);
     CHECK(DRIFTERS_REFUSED_SHEET == 6);
+    CHECK(DRIFTERS_REFUSED_NULL == 7);
 }
 
 /* The text is that of the three numbers. */
@@ -131,5 +132,5 @@ int main(void)
     sheets();
     codes();
     version();
-    return status_of("constants", 81);
+    return status_of("constants", 82);
 }

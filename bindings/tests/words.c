@@ -5,14 +5,14 @@
 #include "drifters_eqf.h"
 #include "words_again.h"
 
-#define CODES 7 /* 0 to 6 */
+#define CODES 8 /* 0 to 7 */
 
 /* 32 bits set, and the first number that is no code. */
 static const uint32_t unknown[2] = {0xFFFFFFFFu, CODES};
 
 static void words(void)
 {
-    static const char *const expected[CODES] = {"ok", "length", "blank", "turn", "pivot", "range", "sheet"};
+    static const char *const expected[CODES] = {"ok", "length", "blank", "turn", "pivot", "range", "sheet", "null"};
     uint32_t code;
 
     for (code = 0; code < CODES; code++)
@@ -61,5 +61,5 @@ int main(void)
     meanings();
     unknown_codes();
     other_file();
-    return status_of("words", 7 + 7 * 2 + 21 + 4 + 7 + 8 * 2);
+    return status_of("words", 8 + 8 * 2 + 28 + 4 + 8 + 9 * 2);
 }

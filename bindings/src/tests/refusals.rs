@@ -4,14 +4,15 @@ use std::string::ToString;
 
 #[test]
 fn refusals_by_number() {
-    let words = ["length", "blank", "turn", "pivot", "range", "sheet"];
-    for (n, word) in (1..=6).zip(words) {
+    let words = ["length", "blank", "turn", "pivot", "range", "sheet", "null"];
+    for (n, word) in (1..=7).zip(words) {
         let refusal = Refusal::of_number(n).unwrap();
         assert_eq!(refusal.number(), n);
         assert_eq!(refusal.word(), word);
     }
     assert_eq!(Refusal::of_number(0), None);
-    assert_eq!(Refusal::of_number(7), None);
+    assert_eq!(Refusal::of_number(7), Some(Refusal::Null));
+    assert_eq!(Refusal::of_number(8), None);
 }
 
 #[test]
@@ -26,8 +27,10 @@ fn texts() {
          check measurement, noise and sigma",
         "refused 5 (range): a result is not finite; check the units and sizes of the numbers",
         "refused 6 (sheet): a call sheet breaks its layout or cannot be read; check how it was built",
+        "refused 7 (null): a direction's measured vector or north has norm 0; \
+         check that the compass is on and that north is set",
     ];
-    for (n, text) in (1..=6).zip(texts) {
+    for (n, text) in (1..=7).zip(texts) {
         let error: &dyn core::error::Error = &Refusal::of_number(n).unwrap();
         assert_eq!(error.to_string(), text);
     }

@@ -66,6 +66,32 @@ fn a_sheet_of_scalar_updates() {
     );
 }
 
+/// Directions: a vector of norm 0 is refused by 7, one that is blank too by 2, and the calls after it go on.
+#[test]
+fn a_sheet_of_directions() {
+    let seen = |measured, north| {
+        let noise = diagonal([1.0; 3]);
+        Direction {
+            measured,
+            north,
+            noise,
+        }
+        .numbers()
+    };
+    let (x, y) = ([1.0, 0.0, 0.0], [0.0, 2.0, 0.0]);
+    let calls = [
+        seen(x, y),
+        seen([0.0; 3], y),
+        seen(x, [-0.0; 3]),
+        seen([f64::INFINITY, 0.0, 0.0], [0.0; 3]),
+        seen(x, y),
+    ];
+    assert_eq!(
+        text(&sheet_of(kind::DIRECTION, &whole_case(), &calls)),
+        "1 4 3FF0000000000000\n2 4 refused 7\n3 4 refused 7\n4 4 refused 2\n5 4 3FF0000000000000\n"
+    );
+}
+
 #[test]
 fn broken_sheets_print_6() {
     let whole = sheet(&whole_case(), &[position(0.0, 1.0)]);

@@ -100,6 +100,23 @@ fn update_direction(run: &mut [f64]) {
     report(b"update_direction", entry::update_direction(run, &v));
 }
 
+// A direction by zeros, which are no direction.
+fn update_direction_by_zeros(run: &mut [f64]) {
+    let mut v = pair_numbers();
+    v[0] = 0.0;
+    v[1] = 0.0;
+    v[2] = 0.0;
+    report(b"update_direction", entry::update_direction(run, &v));
+}
+
+// A direction of a north of zeros.
+fn update_direction_of_zeros(run: &mut [f64]) {
+    let mut v = pair_numbers();
+    v[3] = 0.0;
+    v[5] = 0.0;
+    report(b"update_direction", entry::update_direction(run, &v));
+}
+
 // A general update: the bias of the gyroscope, measured.
 fn update(run: &mut [f64]) {
     let mut v = [0.0; 75];
@@ -146,14 +163,16 @@ fn each_kind(run: &mut [f64]) {
     update_scalar(run, 0.01, 0.25);
 }
 
-// One refusal of each number: too few numbers, a number that is infinite, a turn above 8, noise below 0, densities that overflow. A refusal 6
-// is a call sheet's.
+// One refusal of each number: too few numbers, a number that is infinite, a turn above 8, noise below 0, densities that overflow, and both ways
+// to have no direction. A refusal 6 is a call sheet's.
 fn refusals(run: &mut [f64]) {
     propagate_by_few(run);
     propagate(run, 1.0 / 0.0, 0.01, 0.001);
     propagate(run, 2000.0, 0.01, 0.001);
     update_position(run, -100.0);
     propagate(run, 0.02, 1.0, 1.0e308);
+    update_direction_by_zeros(run);
+    update_direction_of_zeros(run);
 }
 
 // Those of a scalar update, but for the turn: too few numbers, an innovation that is infinite, a variance below 0, a NIS that overflows.

@@ -8,6 +8,8 @@ use Rattle.drifters_real.specs.Scalar.{_⊕_, _⊖_, _⊗_, _⊘_, plusZero}
 use Rattle.drifters_real.specs.Real.{sqrt, abs, isFinite}
 use Rattle.drifters_matrix.specs.Matrix.{at, larger}
 use Rattle.drifters_core.specs.declared.math.vec3.Vec3.{Vec3}
+use Rattle.drifters_core.specs.declared.math.vec3.Normalized.{Normalized}
+use Rattle.drifters_core.specs.declared.math.vec3.Normalized.the-variants.{Unit, None}
 use Rattle.drifters_matrix.specs.declared.math.shapes.Mat3.{Mat3}
 
 -- the vector of three components
@@ -50,9 +52,9 @@ norm v = sqrt (normSquared v)
 unfoldable pub divVec3 : Vec3 → Float → Vec3
 divVec3 v s = vec3 (v .x ⊘ s) (v .y ⊘ s) (v .z ⊘ s)
 
--- the vector over its norm; the zero vector where the norm is not above 0
-unfoldable pub normalized : Vec3 → Vec3
-normalized v = cond (lt plusZero (norm v)) (divVec3 v (norm v)) zeroVec3
+-- the vector over its norm; none where the norm is not above 0, be it 0 or not a number
+unfoldable pub normalized : Vec3 → Normalized
+normalized v = cond (lt plusZero (norm v)) (Unit (divVec3 v (norm v))) None
 
 -- the products of the components
 unfoldable pub componentMul : Vec3 → Vec3 → Vec3

@@ -1,4 +1,5 @@
 -- The proofs of the demands.
+pub mod Null
 pub mod Decision
 pub mod Sheets
 pub mod First

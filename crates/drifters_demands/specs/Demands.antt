@@ -6,7 +6,7 @@
 use Prim.Native.Nat.{ℕ, _+_, _*_, _<_}
 use mathlib.Core.Path.{_≡_}
 use mathlib.Core.Logic.{_↔_}
-use mathlib.Core.Bool.{Bool, true, false, not, _&&_, cond}
+use mathlib.Core.Bool.{Bool, true, false, not, _&&_, _||_, cond}
 use mathlib.Core.List.{List, [], _∷_, map, Forall₂}
 use mathlib.Core.Option.{some}
 use lib.Dec.{eqb}
@@ -15,7 +15,10 @@ use lib.Ieee.{Float, nan, eq, isNan}
 use Rattle.drifters_real.specs.Scalar.{plusZero}
 use Rattle.drifters_real.specs.Real.{isFinite, SqrtNearest, SineBound, CosineBound}
 use Rattle.drifters_matrix.specs.Matrix.{allFinite}
-use Rattle.drifters_eqf.specs.Answer.{lengthRefusal, blankRefusal, turnRefusal, pivotRefusal, rangeRefusal, sheetRefusal, numberOf, valuesOf}
+use Rattle.drifters_core.specs.Vec3.{norm}
+use Rattle.drifters_core.specs.declared.math.vec3.Vec3.{Vec3}
+use Rattle.drifters_lie.specs.Lie.{vec3At}
+use Rattle.drifters_eqf.specs.Answer.{lengthRefusal, blankRefusal, turnRefusal, pivotRefusal, rangeRefusal, sheetRefusal, nullRefusal, numberOf, valuesOf}
 use Rattle.drifters_cholesky.specs.Cholesky.{definite, entriesOf}
 use Rattle.drifters_gcu.specs.Gcu.{nis}
 use Rattle.drifters_eqf.specs.Filter.{turnFits, navState, halfStep, fullStep, propagated, rawFactor, inflatedFactor, gain, correction, step, corrected}
@@ -27,7 +30,7 @@ use Rattle.drifters_kind.specs.Kind.{formOf, writtenLength}
 use Rattle.drifters_entry.specs.Entry.{Request, refusal, propagation, measurement, estimate, requestOf, Outcome, refused, lengthsFit, call, started, start}
 use Rattle.drifters_entry.specs.Log.{Call, LogEntry, Log, logOf}
 use Rattle.drifters_kind.specs.declared.kind.Kind.{Kind}
-use Rattle.drifters_kind.specs.declared.kind.Kind.the-variants.{State}
+use Rattle.drifters_kind.specs.declared.kind.Kind.the-variants.{Propagate, Position, Velocity, Direction, General, State, Scalar}
 use Rattle.call_sheet.specs.Sheet.{Sheet, Runs, readSheet, isSome, refusalOf, runsFit, inRuns, readInto}
 use Rattle.call_sheet.specs.Text.{refusedLine, numbersOf, callOf, linesText, sheetText}
 use Rattle.call_sheet.specs.declared.sheet.Filled.the-variants as filled
@@ -50,9 +53,23 @@ unfoldable pub firstOf : List Check → ℕ
 firstOf [] = 0
 firstOf (c ∷ cs) = cond (c .refuses) (c .number) (firstOf cs)
 
--- the checks of what is asked of a filter, after length and blank
+-- a vector has norm 0, be it by underflow
+abbrev pub normIsZero : Vec3 → Bool
+normIsZero v = eq (norm v) plusZero
+
+-- a call has a vector to be normalised whose norm is 0: a direction call's measured vector or north
+abbrev pub hasNull : Kind → List Float → Bool
+hasNull Propagate v = false
+hasNull Position v = false
+hasNull Velocity v = false
+hasNull Direction v = normIsZero (vec3At v 0) || normIsZero (vec3At v 3)
+hasNull General v = false
+hasNull State v = false
+hasNull Scalar v = false
+
+-- the checks of what is asked of a filter, after length, blank and null; what a kind refuses by a check of its own is null
 abbrev pub laterChecks : Request → EqFilter → List Check
-laterChecks (refusal n) f = unless n false ∷ []
+laterChecks (refusal n) f = []
 laterChecks (propagation u dt q) f =
     unless turnRefusal (turnFits (halfStep f u dt))
     ∷ unless turnRefusal (turnFits (fullStep f u dt))
@@ -74,6 +91,7 @@ abbrev pub checks : Kind → List Float → List Float → List Float → List C
 checks kind run v written =
     unless lengthRefusal (lengthsFit (formOf kind) run v (length written))
     ∷ unless blankRefusal (allFinite run && allFinite v)
+    ∷ unless nullRefusal (not (hasNull kind v))
     ∷ laterChecks (requestOf kind (fromRun run) v) (fromRun run)
 
 -- the checks of a start
@@ -110,9 +128,17 @@ pub record CheckedSheet (s filter kinds numbers : List ℕ) (o : Runs) : Type 0 
   pub taken : firstOf (sheetChecks s filter kinds numbers) ≡ 0 → (sheet : Sheet) × (readSheet s ≡ some sheet) × (o ≡ inRuns (some sheet) filter kinds numbers)
   pub broken : isSome (readSheet s) ≡ false → sheetText s ≡ refusedLine sheetRefusal
 
--- Every call, every start and every sheet is so checked, and an accepted propagation or update leaves a covariance that mirrors bit for bit.
+-- a call passes the checks of length and blank, and is a direction call whose measured vector or north has norm 0
+pub record NullCall (kind : Kind) (run v written : List Float) : Type 0 where
+  pub lengths : lengthsFit (formOf kind) run v (length written) ≡ true
+  pub finite : allFinite run && allFinite v ≡ true
+  pub null : hasNull kind v ≡ true
+
+-- Every call, every start and every sheet is so checked; a call is refused as null exactly where it is such a call; and an accepted propagation or
+-- update leaves a covariance that mirrors bit for bit.
 pub record Demand1 : Type 0 where
   pub calls : (kind : Kind) (run v written : List Float) → Checked (checks kind run v written) run written (call kind run v written)
+  pub null : (kind : Kind) (run v written : List Float) → call kind run v written .answer ≡ Refused nullRefusal ↔ NullCall kind run v written
   pub starts : (run v : List Float) → Checked (startChecks run v) run [] (start run v)
   pub sheets : (s filter kinds numbers : List ℕ) → CheckedSheet s filter kinds numbers (readInto s filter kinds numbers)
   pub mirrored :
@@ -187,7 +213,7 @@ pub record EqualLog (l m : Log) : Type 0 where
   pub entries : Forall₂ EqualEntry (l .entries) (m .entries)
 
 -- Any two logs are equal, the second read through a half turn about any reference axis (`aboutX`, `aboutY`, `aboutZ`, or `noTurn`), exactly when
--- their first filters and calls are. No call is left out, not even one with a north of norm 0, and runs may have any length.
+-- their first filters and calls are. Logs hold every call, accepted or refused, and runs may have any length.
 abbrev pub Demand3 : Type 0
 Demand3 =
     (s : Signs) (first first' : List Float) (calls calls' : List Call)

@@ -8,7 +8,7 @@ use Rattle.drifters_real.specs.Reading.{Reading, reads, AsStated}
 use Rattle.drifters_real.specs.Scalar.{plusZero, one, two}
 use Rattle.drifters_real.specs.Real.{sqrt, sin, cos}
 use Rattle.drifters_matrix.specs.Matrix.{matmul, mulTranspose, symmetrize}
-use Rattle.drifters_core.specs.Vec3.{vec3, zeroVec3}
+use Rattle.drifters_core.specs.Vec3.{vec3, zeroVec3, splat, norm}
 use Rattle.drifters_cholesky.specs.Cholesky.{Factor, none, lower, cholesky}
 use Rattle.drifters_lie.specs.Lie.{se3Tangent}
 use Rattle.drifters_adjoint.specs.Adjoint.{mostHalvings, halvings}
@@ -53,6 +53,10 @@ signsAre s x y z = numbersAre (signed (axis s 0) one ∷ signed (axis s 1) one �
 abbrev pub turnedAboutX : Kind → List Float → List Float
 turnedAboutX kind v = turnCall aboutX (record { kind = kind; numbers = v }) .numbers
 
+-- the norm of a vector with one number, of a pattern, for each component
+abbrev pub normOf : ℕ → Float
+normOf n = norm (splat (float n))
+
 -- the table; u, v and w, above a diagonal, may hold anything
 unfoldable pub readings : Float → Float → Float → List Reading
 readings u v w =
@@ -92,6 +96,8 @@ readings u v w =
     -- of a scalar update: its NIS at y = 1 and S = 2, which is not 0.5; its row, which turns by its axes, and its innovation and variance, which do not
     ∷ numbersAre (nis 1 (sqrt two ∷ []) (one ∷ []) ∷ []) (float 0x3fdf_ffff_ffff_ffff ∷ [])
     ∷ numbersAre (turnedAboutX Scalar (replicate 23 one)) (axes ++ axes ++ axes ++ axes ++ axes ++ axes ++ axes ++ one ∷ one ∷ [])
+    -- a norm: 0 by underflow, at the largest number whose square is 0; above 0 at the next number; infinite at 1e200
+    ∷ numbersAre (normOf 0x1e56_a09e_667f_3bcc ∷ normOf 0x1e56_a09e_667f_3bcd ∷ normOf 0x6974_e718_d7d7_625a ∷ []) (zero ∷ float 0x1e6b_b67a_e858_4caa ∷ inf false ∷ [])
     ∷ []
 
 -- every row of the table is as stated

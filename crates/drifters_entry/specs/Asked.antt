@@ -12,12 +12,12 @@ use Rattle.drifters_eqf.specs.Filter.{measurement3}
 use Rattle.drifters_eqf.specs.declared.filter.EqFilter.{EqFilter}
 use Rattle.drifters_entry.specs.Layout.{part}
 use Rattle.drifters_kind.specs.Kind.{callLength}
-use Rattle.drifters_entry.specs.Entry.{Request, propagation, measurement, estimate, processNoiseAt, lengthsFit}
+use Rattle.drifters_entry.specs.Entry.{Request, refusal, propagation, measurement, estimate, processNoiseAt, lengthsFit}
 use Rattle.drifters_kind.specs.declared.kind.Kind.the-variants as kind
 use Rattle.drifters_kind.specs.declared.kind.Form.{Form}
 use Rattle.drifters_entry.specs.declared.entry.Asked.{Asked}
 use Rattle.drifters_entry.specs.declared.entry.Action.{Action}
-use Rattle.drifters_entry.specs.declared.entry.Action.the-variants.{Propagate, Update1, Update3, Estimate}
+use Rattle.drifters_entry.specs.declared.entry.Action.the-variants.{Propagate, Update1, Update3, Estimate, Refuse}
 
 -- the number of the refusal of a call of a form by length or blank, where its run to be written has n numbers; 0 where there is none
 abbrev pub firstRefusal : Form → List Float → List Float → ℕ → ℕ
@@ -29,6 +29,7 @@ asRequest Propagate a f v = propagation (inputAt v 0) (getD v 6 nan) (processNoi
 asRequest Update1 a f v = measurement 1 (record { output = part v 0 21; innovation = part v 21 1 }) (part v 22 1) (f .alpha)
 asRequest Update3 a f v = measurement 3 (measurement3 (a .measurement)) (part v (a .noise) 9) (f .alpha)
 asRequest Estimate a f v = estimate
+asRequest (Refuse n) a f v = refusal n
 
 -- the numbers that an action reads are there
 abbrev pub Readable : Action → Asked → List Float → Type 0
@@ -36,3 +37,4 @@ Readable Propagate a v = length v ≡ callLength kind.Propagate
 Readable Update1 a v = length v ≡ callLength kind.Scalar
 Readable Update3 a v = a .noise + 9 ≤ length v
 Readable Estimate a v = Unit
+Readable (Refuse n) a v = Unit

@@ -2,11 +2,12 @@
 use Prim.Native.Nat.{ℕ, _+_}
 use mathlib.Core.Bool.{Bool, _&&_, cond}
 use mathlib.Core.List.{List, []}
+use mathlib.Core.Option.{Option, none, some}
 use lib.Dec.{eqb}
 use lib.ListN.{length, getD}
 use lib.Ieee.{Float, nan}
 use Rattle.drifters_matrix.specs.Matrix.{allFinite}
-use Rattle.drifters_eqf.specs.Answer.{lengthRefusal, blankRefusal, rangeRefusal, valuesOf}
+use Rattle.drifters_eqf.specs.Answer.{lengthRefusal, blankRefusal, rangeRefusal, nullRefusal, valuesOf}
 use Rattle.drifters_lie.specs.Lie.{vec3At}
 use Rattle.drifters_covariance.specs.Covariance.{inputAt}
 use Rattle.drifters_eqf.specs.Filter.{new, navState, propagate, Measurement, updateBy, measuredPosition, measuredVelocity, measuredDirection}
@@ -23,7 +24,7 @@ use Rattle.drifters_kind.specs.declared.kind.Kind.{Kind}
 use Rattle.drifters_kind.specs.declared.kind.Kind.the-variants.{Propagate, Position, Velocity, Direction, General, State, Scalar}
 
 -- what a call asks of the filter: to propagate, to be updated by a measurement of w numbers with its noise and the share of inflation
--- along the innovation, or its estimate; `refusal` is for a kind with a check of its own, which stands between blank and pivot
+-- along the innovation, or its estimate; `refusal` is of a kind with a check of its own, which stands between blank and pivot: a direction's
 pub data Request : Type 0 where
   refusal : ℕ → Request
   propagation : Input → Float → ProcessNoise → Request
@@ -41,12 +42,17 @@ processNoiseAt v i = record {
   mag = vec3At v (i + 15);
 }
 
+-- the update by what a direction measures; the refusal 'null' where it measures nothing
+abbrev pub directionRequest : Option Measurement → List Float → Float → Request
+directionRequest none noise alpha = refusal nullRefusal
+directionRequest (some m) noise alpha = measurement 3 m noise alpha
+
 -- what the numbers v of a call ask of the filter f
 abbrev pub requestOf : Kind → EqFilter → List Float → Request
 requestOf Propagate f v = propagation (inputAt v 0) (getD v 6 nan) (processNoiseAt v 7)
 requestOf Position f v = measurement 3 (measuredPosition (f .x) (vec3At v 0)) (part v 3 9) (f .alpha)
 requestOf Velocity f v = measurement 3 (measuredVelocity (f .x) (vec3At v 0) (vec3At v 3)) (part v 6 9) (f .alpha)
-requestOf Direction f v = measurement 3 (measuredDirection (f .x) (vec3At v 0) (vec3At v 3)) (part v 6 9) (f .alpha)
+requestOf Direction f v = directionRequest (measuredDirection (f .x) (vec3At v 0) (vec3At v 3)) (part v 6 9) (f .alpha)
 requestOf General f v = measurement 3 (record { output = part v 0 63; innovation = part v 63 3 }) (part v 66 9) (f .alpha)
 requestOf State f v = estimate
 requestOf Scalar f v = measurement 1 (record { output = part v 0 21; innovation = part v 21 1 }) (part v 22 1) (f .alpha)

@@ -6,7 +6,7 @@ ghost use Prim.Native.Nat.{_+_, _≤_};
 ghost use lib.ListN.{length};
 ghost use Rattle.drifters_matrix.specs.Matrix.{allFinite};
 ghost use Rattle.drifters_lie.specs.Lie.{vec3At};
-ghost use Rattle.drifters_eqf.specs.Filter.{measurement3, measuredPosition, measuredVelocity, measuredDirection};
+ghost use Rattle.drifters_eqf.specs.Filter.{measurement3, measuredPosition, measuredVelocity};
 ghost use Rattle.drifters_entry.specs.Layout.{filterLength, part, fromRun};
 ghost use Rattle.drifters_kind.specs.Kind.{stateLength, callLength};
 ghost use Rattle.drifters_entry.specs.Asked.{firstRefusal, asRequest, Readable};
@@ -35,6 +35,7 @@ use drifters_eqf::filter::BLANK_REFUSAL;
 use drifters_eqf::filter::EqFilter;
 use drifters_eqf::filter::LENGTH_REFUSAL;
 use drifters_eqf::filter::Measurement3;
+use drifters_eqf::filter::NULL_REFUSAL;
 use drifters_eqf::filter::RANGE_REFUSAL;
 use drifters_eqf::filter::measured_direction;
 use drifters_eqf::filter::measured_position;
@@ -55,12 +56,14 @@ pub const FILTER_LENGTH: usize = ALPHA + 1;
 // How many numbers a start takes: a state, a covariance, gravity.
 pub const START_LENGTH: usize = ALPHA;
 
-// What is done to a filter: a propagation, an update by one or by three measured numbers, or nothing, where its estimate is asked.
+// What is done to a filter: a propagation, an update by one or by three measured numbers, or nothing, where its estimate is asked or the call is
+// refused by a check of its kind's own.
 pub enum Action {
     Propagate,
     Update1,
     Update3,
     Estimate,
+    Refuse(u32),
 }
 
 // What a call asks of a filter. An enum of the language holds no array, so what is measured, and where its noise begins in the call's numbers,
@@ -87,6 +90,7 @@ pub fn call(kind: Kind, run: &mut [f64], numbers: &[f64], written: &mut [f64]) -
         Action::Update1 => update_scalar_by(numbers, run[ALPHA], run),
         Action::Update3 => update_by(asked.measurement, numbers, asked.noise, run[ALPHA], run),
         Action::Estimate => write_estimate(run, written),
+        Action::Refuse(n) => Answer::Refused(n),
     }
 }
 
@@ -201,7 +205,7 @@ fn asked_by(kind: Kind, run: &[f64], numbers: &[f64]) -> Asked
         Kind::Propagate => unmeasured(Action::Propagate),
         Kind::Position => measured(position(run, numbers), 3),
         Kind::Velocity => measured(velocity(run, numbers), 6),
-        Kind::Direction => measured(direction(run, numbers), 6),
+        Kind::Direction => direction(run, numbers),
         Kind::General => measured(general(numbers), 66),
         Kind::State => unmeasured(Action::Estimate),
         Kind::Scalar => unmeasured(Action::Update1),
@@ -291,16 +295,20 @@ fn velocity(run: &[f64], numbers: &[f64]) -> Measurement3
     )
 }
 
-// What a direction call measures: measured 3, north 3.
-fn direction(run: &[f64], numbers: &[f64]) -> Measurement3
+// What a direction call asks: an update by measured 3, of north 3, or to be refused as null where one of these has no direction.
+fn direction(run: &[f64], numbers: &[f64]) -> Asked
     requires { ⌜ (length (now run) ≡ filterLength) × (length (now numbers) ≡ callLength Direction) ⌝ }
-    ensures { λ r. ⌜ measurement3 r ≡ measuredDirection (fromRun (now (run .entry)) .x) (vec3At (now (numbers .entry)) 0) (vec3At (now (numbers .entry)) 3) ⌝ }
+    ensures { λ r. ⌜ (asRequest (r .action) r (fromRun (now (run .entry))) (now (numbers .entry)) ≡ requestOf Direction (fromRun (now (run .entry))) (now (numbers .entry))) × Readable (r .action) r (now (numbers .entry)) ⌝ }
 {
-    measured_direction(
+    let found = measured_direction(
         symmetry_from_run(run),
         vec3_at(numbers, 0),
         vec3_at(numbers, 3),
-    )
+    );
+    if !found.defined {
+        return unmeasured(Action::Refuse(NULL_REFUSAL));
+    }
+    measured(found.measurement, 6)
 }
 
 // What a general update measures: output matrix 63, innovation 3.

@@ -29,6 +29,10 @@ rangeRefusal = 5
 abbrev pub sheetRefusal : ℕ
 sheetRefusal = 6
 
+-- null: a vector that is to be normalised has norm 0
+abbrev pub nullRefusal : ℕ
+nullRefusal = 7
+
 -- the number of an answer: that of a refusal, and 0 where the call is accepted
 abbrev pub numberOf : Answer → ℕ
 numberOf (Nis x) = 0

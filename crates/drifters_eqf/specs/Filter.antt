@@ -2,6 +2,7 @@
 use Prim.Native.Nat.{ℕ, _*_}
 use mathlib.Core.Bool.{Bool, _&&_, cond}
 use mathlib.Core.List.{List}
+use mathlib.Core.Option.{Option, none, some}
 use lib.Ieee.{Float, binary64, le, ofBits}
 use Rattle.drifters_real.specs.Scalar.{_⊗_, half}
 use Rattle.drifters_real.specs.Real.{abs}
@@ -9,6 +10,8 @@ use Rattle.drifters_matrix.specs.Matrix.{transpose, matmul, mulTranspose, scale
 use Rattle.drifters_cholesky.specs.Cholesky.{Factor, definite, entriesOf, cholesky, solve}
 use Rattle.drifters_core.specs.Vec3.{toArray, norm, normalized, skew, subVec3, mulMat3Vec3}
 use Rattle.drifters_core.specs.declared.math.vec3.Vec3.{Vec3}
+use Rattle.drifters_core.specs.declared.math.vec3.Normalized.{Normalized}
+use Rattle.drifters_core.specs.declared.math.vec3.Normalized.the-variants.{Unit, None}
 use Rattle.drifters_eqf.specs.Answer.{turnRefusal, pivotRefusal}
 use Rattle.drifters_symmetry.specs.Group.{compose, scaledAlgebra, fromArray21, exp, defaultState, fromState, actState}
 use Rattle.drifters_symmetry.specs.Lift.{lift}
@@ -24,6 +27,7 @@ use Rattle.drifters_eqf.specs.declared.filter.EqFilter.{EqFilter}
 use Rattle.drifters_eqf.specs.declared.filter.Answer.the-variants.{Nis, Fine, Refused}
 use Rattle.drifters_eqf.specs.declared.filter.Answered.{Answered}
 use Rattle.drifters_eqf.specs.declared.filter.Measurement3.{Measurement3}
+use Rattle.drifters_eqf.specs.declared.filter.MeasuredDirection.{MeasuredDirection}
 
 -- 8.0: the largest norm of a rotation vector whose exponential is taken
 abbrev pub turnLimit : Float
@@ -174,9 +178,23 @@ measuredVelocity x antenna omega =
     let transported = transportedVelocity x omega in
     record { output = velocityOutputMatrix antenna transported (mulMat3Vec3 (x .c .rotation) omega); innovation = toArray (subVec3 transported antenna) }
 
--- a magnetometer direction, measured of a known north
-unfoldable pub measuredDirection : Symmetry → Vec3 → Vec3 → Measurement
-measuredDirection x measured north =
-    let origin = normalized north in
-    let transported = transportedDirection x (normalized measured) in
+-- a unit vector, measured of a north that is one
+abbrev pub measuredUnit : Symmetry → Vec3 → Vec3 → Measurement
+measuredUnit x unit origin =
+    let transported = transportedDirection x unit in
     record { output = directionOutputMatrix origin transported; innovation = toArray (mulMat3Vec3 (skew origin) transported) }
+
+-- what two normalised vectors give: a measurement, or none where one of them is none
+abbrev pub measuredUnits : Symmetry → Normalized → Normalized → Option Measurement
+measuredUnits x (Unit unit) (Unit origin) = some (measuredUnit x unit origin)
+measuredUnits x (Unit unit) None = none
+measuredUnits x None (Unit origin) = none
+measuredUnits x None None = none
+
+-- a magnetometer direction, measured of a known north; none where the norm of one of them is not above 0
+unfoldable pub measuredDirection : Symmetry → Vec3 → Vec3 → Option Measurement
+measuredDirection x measured north = measuredUnits x (normalized measured) (normalized north)
+
+-- the same, as the code has it
+abbrev pub directionMeasured : MeasuredDirection → Option Measurement
+directionMeasured r = cond (r .defined) (some (measurement3 (r .measurement))) none

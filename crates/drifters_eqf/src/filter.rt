@@ -1,11 +1,13 @@
 // Port of filter.rs: the filter, its propagation and its updates, by value. The group acts from the right: a propagation composes on the
 // right, the correction of an update on the left. The lines of the covariance are in drifters_covariance.
 ghost use mathlib.Core.List.{[], _∷_};
+ghost use mathlib.Core.Option.{none};
 ghost use mathlib.Core.Path.{_≡_};
 ghost use Rattle.drifters_core.specs.Vec3.{toArray};
-ghost use Rattle.drifters_eqf.specs.Filter.{turnFits, refuse, new, navState, propagate, applied, filterOf, update, measurement3, measuredPosition, measuredVelocity, measuredDirection};
+ghost use Rattle.drifters_eqf.specs.Filter.{turnFits, refuse, new, navState, propagate, applied, filterOf, update, measurement3, measuredPosition, measuredVelocity, directionMeasured, measuredDirection};
 use drifters_cholesky::math::cholesky::Cholesky1;
 use drifters_cholesky::math::cholesky::Cholesky3;
+use drifters_core::math::vec3::Normalized;
 use drifters_core::math::vec3::Vec3;
 use drifters_core::math::vec3::from_vec3;
 use drifters_core::math::vec3::mul_vec3;
@@ -43,7 +45,7 @@ use drifters_symmetry::linear::transported_position;
 use drifters_symmetry::linear::transported_velocity;
 use drifters_symmetry::linear::velocity_output_matrix;
 
-// The numbers of the refusals: length, blank, turn, pivot and range (docs/MANUAL.md).
+// The numbers of the refusals: length, blank, turn, pivot, range and null (docs/MANUAL.md). 6 is a call sheet's.
 pub const LENGTH_REFUSAL: u32 = 1;
 
 pub const BLANK_REFUSAL: u32 = 2;
@@ -53,6 +55,8 @@ pub const TURN_REFUSAL: u32 = 3;
 pub const PIVOT_REFUSAL: u32 = 4;
 
 pub const RANGE_REFUSAL: u32 = 5;
+
+pub const NULL_REFUSAL: u32 = 7;
 
 // The largest norm of a rotation vector whose exponential is taken.
 const TURN_LIMIT: f64 = 8.0;
@@ -82,6 +86,13 @@ pub struct Answered {
 pub struct Measurement3 {
     pub output: Mat3x21,
     pub innovation: Vec3,
+}
+
+// What an update by a direction measures, where it measures any: a vector of norm 0 has no direction. An enum of the language holds no array, so
+// whether there is a measurement stands beside it; where there is none it is all zeros.
+pub struct MeasuredDirection {
+    pub defined: bool,
+    pub measurement: Measurement3,
 }
 
 impl EqFilter {
@@ -284,15 +295,38 @@ pub fn measured_velocity(x: Symmetry, antenna: Vec3, omega: Vec3) -> Measurement
     }
 }
 
-// What an update by a direction of the known north measures.
-pub fn measured_direction(x: Symmetry, measured: Vec3, north: Vec3) -> Measurement3
-    ensures { λ r. ⌜ measurement3 r ≡ measuredDirection x measured north ⌝ }
+// What an update by a direction of the known north measures; nothing where north or what is measured has no direction.
+pub fn measured_direction(x: Symmetry, measured: Vec3, north: Vec3) -> MeasuredDirection
+    ensures { λ r. ⌜ directionMeasured r ≡ measuredDirection x measured north ⌝ }
 {
-    let origin = north.normalized();
-    let transported = transported_direction(x, measured.normalized());
-    Measurement3 {
+    let Normalized::Unit(origin) = north.normalized() else {
+        return no_direction();
+    };
+    let Normalized::Unit(unit) = measured.normalized() else {
+        return no_direction();
+    };
+    let transported = transported_direction(x, unit);
+    let measurement = Measurement3 {
         output: direction_output_matrix(origin, transported),
         innovation: mul_vec3(origin.skew(), transported),
+    };
+    MeasuredDirection {
+        defined: true,
+        measurement,
+    }
+}
+
+// No measurement.
+fn no_direction() -> MeasuredDirection
+    ensures { λ r. ⌜ directionMeasured r ≡ none ⌝ }
+{
+    let measurement = Measurement3 {
+        output: Mat3x21::zeros(),
+        innovation: Vec3::ZERO,
+    };
+    MeasuredDirection {
+        defined: false,
+        measurement,
     }
 }
 

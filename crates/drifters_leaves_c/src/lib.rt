@@ -1,7 +1,9 @@
 // The leaves, exported for the comparison with the original only: each function takes every number, and writes only what it is lent.
 // drifters_eqf_c exports what a product calls.
 ghost use mathlib.Core.Path.{_≡_};
+ghost use mathlib.Core.Bool.{cond};
 ghost use Rattle.drifters_core.specs.Vec3.{fromArray, toArray, normalized, amaxVec3};
+ghost use Rattle.drifters_core.specs.declared.math.vec3.Normalized.the-variants.{Unit, None};
 ghost use Rattle.drifters_matrix.specs.Matrix.{matmul, mulTranspose, fromDiagonal, symmetrize, amax};
 ghost use Rattle.drifters_cholesky.specs.Cholesky.{definite, entriesOf, cholesky, solve};
 ghost use Rattle.drifters_quat.specs.Quat.{fromRotationVector, toDcm};
@@ -10,6 +12,7 @@ ghost use Rattle.drifters_adjoint.specs.Adjoint.{integratedAdjoint};
 ghost use Rattle.drifters_gcu.specs.Gcu.{beta};
 use drifters_adjoint::adjoint::integrated_adjoint;
 use drifters_cholesky::math::cholesky::Cholesky3;
+use drifters_core::math::vec3::Normalized;
 use drifters_core::math::vec3::Vec3;
 use drifters_gcu::gcu::beta;
 use drifters_lie::lie::Se3Tangent;
@@ -29,14 +32,21 @@ use drifters_matrix::math::shapes::Vector3;
 use drifters_matrix::math::shapes::Vector6;
 use drifters_quat::math::quat::Quat;
 
+// Whether `v` has a vector over its norm, which is then in `out`; else `out` is as it was.
 #[no_mangle]
-pub extern "C" fn drifters_normalized(v: &[f64; 3], out: &mut [f64; 3])
-    ensures { λ _. ⌜ now (out .exit) ≡ toArray (normalized (fromArray (now (v .entry)))) ⌝ }
+pub extern "C" fn drifters_normalized(v: &[f64; 3], out: &mut [f64; 3]) -> bool
+    ensures { λ r. ⌜ (cond r (Unit (fromArray (now (out .exit)))) None ≡ normalized (fromArray (now (v .entry)))) × (now (out .exit) ≡ cond r (now (out .exit)) (now (out .entry))) ⌝ }
 {
     let a = *v;
     let n = Vec3::from_array(a).normalized();
-    let b = n.to_array();
-    *out = b;
+    match n {
+        Normalized::Unit(unit) => {
+            let b = unit.to_array();
+            *out = b;
+            true
+        }
+        Normalized::None => false,
+    }
 }
 
 #[no_mangle]

@@ -12,7 +12,7 @@ use replay_lists::starts::replay_starts;
 use replay_lists::tally::Tally;
 
 // Flights of the mount, as they are and with some of the numbers of their calls changed; filters that no flight leaves; turns just above 8
-// and of 8.
+// and of 8; directions by vectors of norm 0 and just above it.
 fn replay_calls() -> Tally {
     let t = replay(
         Tally::none(),
@@ -24,7 +24,7 @@ fn replay_calls() -> Tally {
     );
     replay(
         t,
-        b"limit_update limit_scalar limit_full limit_full_e limit_half limit_half_e ",
+        b"limit_update limit_scalar limit_full limit_full_e limit_half limit_half_e limit_null ",
     )
 }
 
@@ -41,6 +41,10 @@ fn print_limits() {
     print_sheet(b"the same: full step, E", b"limit_full_e.sheet");
     print_sheet(b"the same: half step", b"limit_half.sheet");
     print_sheet(b"the same: half step, E", b"limit_half_e.sheet");
+    print_sheet(
+        b"directions: norm 0, just above it, infinite; order of the checks",
+        b"limit_null.sheet",
+    );
 }
 
 fn print_counts() {

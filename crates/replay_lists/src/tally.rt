@@ -12,6 +12,7 @@ pub struct Tally {
     turn: u64,
     pivot: u64,
     range: u64,
+    null: u64,
     differ: u64,
     // The first call that differs, counted from 1; 0 where none does.
     first: u64,
@@ -32,6 +33,7 @@ impl Tally {
             turn: 0,
             pivot: 0,
             range: 0,
+            null: 0,
             differ: 0,
             first: 0,
         }
@@ -49,6 +51,7 @@ impl Tally {
                 3 => t.turn = sum(t.turn, 1),
                 4 => t.pivot = sum(t.pivot, 1),
                 5 => t.range = sum(t.range, 1),
+                7 => t.null = sum(t.null, 1),
                 _ => {}
             },
         }
@@ -77,6 +80,7 @@ impl Tally {
             turn: sum(self.turn, more.turn),
             pivot: sum(self.pivot, more.pivot),
             range: sum(self.range, more.range),
+            null: sum(self.null, more.null),
             differ: sum(self.differ, more.differ),
             first: 0,
         }
@@ -98,7 +102,8 @@ impl Tally {
         put(self.blank, b" refused 2, ");
         put(self.turn, b" refused 3, ");
         put(self.pivot, b" refused 4, ");
-        put(self.range, b" refused 5; ");
+        put(self.range, b" refused 5, ");
+        put(self.null, b" refused 7; ");
     }
 
     // The line of a list of values, which are all given.

@@ -1,6 +1,11 @@
 //! The calls on the port and on the original: the answer, and every lent number afterwards.
+//!
+//! A direction call that is refused 7 leaves the comparison, since the original makes it: the port is held to the reading of the checks alone, and to
+//! leaving every lent number.
 use crate::in_threads;
 use crate::lent::{Lent, START};
+use drifters_core::math::Vec3;
+use inputs::norms::LEAST_NORMS;
 use inputs::{log, start, Flight, Manner, Numbers};
 use original::places::FILTER;
 use original::{filter_of, is_update, Call};
@@ -9,23 +14,33 @@ use original::{filter_of, is_update, Call};
 const FLIGHTS: u64 = 150;
 const FLIGHT_CALLS: usize = 4000;
 /// How many logs of other manners, and how many calls one has at most.
-const LOGS: u64 = 160_000;
+const LOGS: u64 = 180_000;
 const LOG_CALLS: usize = 24;
 
 /// The names of the kinds in their order, and of a start.
 const NAMES: [&str; START as usize] =
     ["propagate", "update_position", "update_velocity", "update_direction", "update", "nav_state", "update_scalar", "start"];
 
-const ANSWERS: [&str; 7] = ["accepted", "refused 1", "2", "3", "4 raw", "4 infl.", "5"];
+const ANSWERS: [&str; 8] = ["accepted", "refused 1", "2", "3", "4 raw", "4 infl.", "5", "7"];
 
-/// How often each kind gave each answer, and how many calls differ; how often a NIS was below 0; how many updates of three numbers were made by the
-/// reading of `update` over the width too, and how many of them it made otherwise than the original.
+/// The refusal of the calls that leave the comparison. Its number is its column too.
+const NULL: u32 = 7;
+
 #[derive(Default)]
 struct Tally {
     seed: u64,
+    /// How often each kind gave each answer.
     answers: [[u64; ANSWERS.len()]; NAMES.len()],
+    /// How many calls differ, of those that are compared with the original and of those refused 7.
     differ: u64,
+    null_differ: u64,
+    /// How often a NIS was below 0.
     negative: u64,
+    /// How many directions were accepted with a norm hardly above 0, and with an infinite one.
+    short: u64,
+    long: u64,
+    /// How many updates of three numbers were made by the reading of `update` over the width too, and how many of them it made otherwise than the
+    /// original.
     read: u64,
     misread: u64,
 }
@@ -36,7 +51,10 @@ impl Tally {
             *row += other;
         }
         self.differ += other.differ;
+        self.null_differ += other.null_differ;
         self.negative += other.negative;
+        self.short += other.short;
+        self.long += other.long;
         self.read += other.read;
         self.misread += other.misread;
     }
@@ -46,8 +64,11 @@ impl Tally {
         for (name, row) in NAMES.iter().zip(self.answers) {
             println!("{name:<18} {}", row.map(|count| format!("{count:>9}")).join(" "));
         }
-        let calls: u64 = self.answers.as_flattened().iter().sum();
+        let null: u64 = self.answers.iter().map(|row| row[NULL as usize]).sum();
+        let calls = self.answers.as_flattened().iter().sum::<u64>() - null;
         println!("{calls} calls, {} with a NIS below 0; {} differ", self.negative, self.differ);
+        println!("{null} more refused 7 and left out of these: by the reading of the checks alone; {} differ", self.null_differ);
+        println!("accepted directions: {} with a norm below {LEAST_NORMS:e}, {} with an infinite one", self.short, self.long);
         println!("{} updates of three numbers by the reading over the width; {} differ", self.read, self.misread);
     }
 
@@ -64,17 +85,28 @@ impl Tally {
         if is_update(kind) && expected == 0 && theirs.result[0] < 0.0 {
             self.negative += 1;
         }
-        if (2..=5).contains(&kind) && expected != 1 {
+        if kind == 4 && expected == 0 {
+            self.count_norms(&lent.numbers);
+        }
+        if (2..=5).contains(&kind) && !matches!(expected, 1 | NULL) {
             self.read += 1;
             self.misread += u64::from(!Call::read(kind, &lent.numbers).is_read_alike(&filter_of(&lent.run)));
         }
         if code != expected || !ours.same(&theirs) {
-            self.differ += 1;
-            if self.differ == 1 {
+            let differ = if expected == NULL { &mut self.null_differ } else { &mut self.differ };
+            *differ += 1;
+            if *differ == 1 {
                 println!("seed {}, kind {kind}: port {code}, original {expected}; numbers {:?}", self.seed, lent.numbers);
             }
         }
         ours.run
+    }
+
+    /// Counts an accepted direction that has a norm hardly above 0, or an infinite one.
+    fn count_norms(&mut self, numbers: &[f64]) {
+        let norms = [0, 3].map(|at| Vec3::new(numbers[at], numbers[at + 1], numbers[at + 2]).norm());
+        self.short += u64::from(norms.iter().any(|norm| *norm < LEAST_NORMS));
+        self.long += u64::from(norms.contains(&f64::INFINITY));
     }
 }
 
@@ -135,7 +167,7 @@ fn compare_seeds(title: &str, seeds: u64, one: fn(&mut Tally, u64)) -> u64 {
     let mut all = Tally::default();
     tallies.iter().for_each(|tally| all.add(tally));
     all.print(title);
-    all.differ + all.misread
+    all.differ + all.null_differ + all.misread
 }
 
 pub fn compare() -> u64 {

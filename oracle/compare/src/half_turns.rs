@@ -5,7 +5,7 @@ use drifters_eqf::linear::DIM;
 use inputs::{log, Manner, Numbers};
 use original::places::{ALPHA, E, GAMMA, GENERAL_NOISE, GRAVITY, INNOVATION, SCALAR_INNOVATION, SIGMA, VELOCITY};
 
-const LOGS: u64 = 32_000;
+const LOGS: u64 = 36_000;
 const LOG_CALLS: usize = 24;
 
 type Signs = [f64; 3];
@@ -75,17 +75,24 @@ fn equal(x: &[f64], y: &[f64]) -> bool {
     x.len() == y.len() && x.iter().zip(y).all(|(x, y)| x == y || x.is_nan() && y.is_nan())
 }
 
-/// How many calls of logs were made, how many of them are scalar updates, and how many differ from the turned logs'.
+/// How many calls of logs were made, how many of them are scalar updates, how many were refused 7 as their twins were, and how many differ from the
+/// turned logs'.
 #[derive(Default)]
 struct Tally {
     calls: u64,
     scalars: u64,
+    null: u64,
     differ: u64,
 }
 
 impl Tally {
     fn add(self, other: Self) -> Self {
-        Self { calls: self.calls + other.calls, scalars: self.scalars + other.scalars, differ: self.differ + other.differ }
+        Self {
+            calls: self.calls + other.calls,
+            scalars: self.scalars + other.scalars,
+            null: self.null + other.null,
+            differ: self.differ + other.differ,
+        }
     }
 }
 
@@ -100,7 +107,8 @@ fn compare_log(seed: u64, s: &Signs) -> Tally {
         let same = codes.0 == codes.1
             && equal(&turned_filter(s, &lent.run), &turned.run)
             && equal(&turned_result(s, *kind, &lent.result), &turned.result);
-        tally = tally.add(Tally { calls: 1, scalars: u64::from(*kind == 7), differ: u64::from(!same) });
+        let (scalars, null) = (u64::from(*kind == 7), u64::from(codes == (7, 7)));
+        tally = tally.add(Tally { calls: 1, scalars, null, differ: u64::from(!same) });
         (run, turned_run) = (lent.run, turned.run);
     }
     tally
@@ -110,8 +118,9 @@ pub fn compare() -> u64 {
     let mut wrong = 0;
     for (axis, signs) in ["first", "second", "third"].iter().zip(&TURNS) {
         let tallies = in_threads(LOGS, |seeds| seeds.map(|seed| compare_log(seed, signs)).fold(Tally::default(), Tally::add));
-        let Tally { calls, scalars, differ } = tallies.into_iter().fold(Tally::default(), Tally::add);
-        println!("half turn about the {axis} axis: {LOGS} logs, {calls} calls, {scalars} of them scalar updates; {differ} differ");
+        let Tally { calls, scalars, null, differ } = tallies.into_iter().fold(Tally::default(), Tally::add);
+        let counts = format!("{LOGS} logs, {calls} calls, {scalars} of them scalar updates, {null} refused 7");
+        println!("half turn about the {axis} axis: {counts}; {differ} differ");
         wrong += differ;
     }
     wrong

@@ -6,13 +6,15 @@ use crate::in_threads;
 use drifters_core::math::{Cholesky, Mat3, Matrix, Quat, Real, Vec3};
 use drifters_eqf::gcu::beta;
 use drifters_eqf::lie::{integrated_adjoint, left_jacobian, Se3Tangent};
+use inputs::norms::{long, null, short};
 use inputs::{beside, Numbers};
+use std::sync::atomic::{AtomicU64, Ordering};
 
 type Mat21 = Matrix<21, 21>;
 type Flat21 = [f64; 441];
 
 extern "C" {
-    fn drifters_normalized(v: &[f64; 3], out: &mut [f64; 3]);
+    fn drifters_normalized(v: &[f64; 3], out: &mut [f64; 3]) -> bool;
     fn drifters_amax(v: &[f64; 3]) -> f64;
     fn drifters_rotation(phi: &[f64; 3], q: &mut [f64; 4], dcm: &mut [f64; 9]);
     fn drifters_mul_diagonal_21_18(a: &[f64; 378], d: &[f64; 18], out: &mut [f64; 378]);
@@ -24,6 +26,9 @@ extern "C" {
     fn drifters_left_jacobian(omega: &[f64; 3], out: &mut [f64; 9]);
     fn drifters_beta(r: f64) -> f64;
 }
+
+/// What a run that a leaf may leave holds before.
+const UNTOUCHED: f64 = 1.5;
 
 fn same(x: f64, y: f64) -> bool {
     x.to_bits() == y.to_bits() || x.is_nan() && y.is_nan()
@@ -148,6 +153,40 @@ fn turn(n: &mut Numbers, damaged: bool) -> [f64; 3] {
     }
 }
 
+/// A vector to be normalised: of any norm, of one that is 0, hardly above it or infinite, or with a number that is not finite among such ones.
+fn vector(n: &mut Numbers, damaged: bool) -> [f64; 3] {
+    let mut v = match n.below(8) {
+        0 => null(n),
+        1 => short(n),
+        2 => long(n),
+        _ => return n.array(damaged),
+    };
+    if damaged {
+        v[n.below(3)] = n.one_of(&[f64::INFINITY, f64::NEG_INFINITY, f64::NAN]);
+    }
+    v
+}
+
+/// `Vec3::normalized`: the port has a vector exactly where the original's norm is above 0, and then the original's; else it leaves what it was lent.
+fn normalized() -> u64 {
+    let (zero, blank) = (AtomicU64::new(0), AtomicU64::new(0));
+    let wrong = leaf("Vec3::normalized", 1_000_000, |n, damaged| {
+        let v = vector(n, damaged);
+        let (mut out, original) = ([UNTOUCHED; 3], Vec3::from_array(v));
+        // SAFETY: the port's function takes every number, and writes only `out`.
+        let given = unsafe { drifters_normalized(&v, &mut out) };
+        let norm = original.norm();
+        if norm > 0.0 {
+            return given && all_same(&out, &original.normalized().to_array());
+        }
+        let without = if norm == 0.0 { &zero } else { &blank };
+        without.fetch_add(1, Ordering::Relaxed);
+        !given && out == [UNTOUCHED; 3]
+    });
+    println!("of these without one: {} of norm 0, {} of a norm that is not a number", zero.into_inner(), blank.into_inner());
+    wrong
+}
+
 pub fn compare() -> u64 {
     // SAFETY, below: each function of the port takes every number, and writes only what it is lent.
     let mut wrong = leaf("sqrt, any bits", 4_000_000, |n, _| {
@@ -171,12 +210,7 @@ pub fn compare() -> u64 {
         let inside = (0.0..=8.0).contains(&theta);
         sin.is_nan() != inside && cos.is_nan() != inside
     });
-    wrong += leaf("Vec3::normalized", 1_000_000, |n, damaged| {
-        let v = n.array(damaged);
-        let mut out = [0.0; 3];
-        unsafe { drifters_normalized(&v, &mut out) };
-        all_same(&out, &Vec3::from_array(v).normalized().to_array())
-    });
+    wrong += normalized();
     wrong += leaf("Vec3::amax", 1_000_000, |n, damaged| {
         let v = n.array(damaged);
         same(unsafe { drifters_amax(&v) }, Vec3::from_array(v).amax())

@@ -11,12 +11,14 @@ const MOST_BYTES: usize = 65_536;
 const MOST_TEXT: usize = 5865;
 const UNTOUCHED: u8 = 0xa5;
 
-/// How many sheets were run, how many of them were refused whole, how many lines were compared, and how many sheets differ.
+/// How many sheets were run, how many of them were refused whole, how many lines were compared, how many of these are of a call refused 7, and how
+/// many sheets differ.
 #[derive(Clone, Copy, Default)]
 struct Tally {
     sheets: u64,
     refused: u64,
     lines: u64,
+    null: u64,
     differ: u64,
 }
 
@@ -26,6 +28,7 @@ impl Tally {
             sheets: self.sheets + other.sheets,
             refused: self.refused + other.refused,
             lines: self.lines + other.lines,
+            null: self.null + other.null,
             differ: self.differ + other.differ,
         }
     }
@@ -38,6 +41,7 @@ impl Tally {
         self.sheets += 1;
         self.refused += u64::from(text == REFUSED_SHEET);
         self.lines += text.lines().count() as u64;
+        self.null += text.lines().filter(|line| line.ends_with(" refused 7")).count() as u64;
         if code != 0 || front != text.as_bytes() || rest.iter().any(|byte| *byte != UNTOUCHED) {
             self.differ += 1;
             if self.differ == 1 {
@@ -153,6 +157,7 @@ pub fn compare() -> u64 {
     let mut edges = Tally::default();
     limits(&mut edges);
     let all = tallies.into_iter().fold(edges, Tally::add);
-    println!("{} sheets, {} of them refused whole, {} lines; {} sheets differ", all.sheets, all.refused, all.lines, all.differ);
+    let lines = format!("{} lines, {} of them refused 7", all.lines, all.null);
+    println!("{} sheets, {} of them refused whole, {lines}; {} sheets differ", all.sheets, all.refused, all.differ);
     all.differ
 }

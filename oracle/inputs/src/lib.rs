@@ -1,6 +1,7 @@
 //! Inputs for the comparison and the measurements, from fixed seeds: numbers, flights, logs of calls and call sheets.
 mod flight;
 mod log;
+pub mod norms;
 mod numbers;
 mod scalar;
 mod sheet;

@@ -1,11 +1,13 @@
 //! Logs: a filter's run and calls on it, in manners that reach every answer.
+use crate::norms::{long, null, short};
 use crate::scalar::scalar;
 use crate::{beside, Numbers};
 use drifters_core::math::{Mat3, Matrix, Quat, Vec3};
 use original::places::{DELTA, E, GAMMA, GENERAL_NOISE, INNOVATION, POSITION};
 
-/// The kinds that a log's calls are drawn from. A scalar update stands twice: it has no call of the original's own, and so is compared more often.
-const DRAWN: [u32; 8] = [1, 2, 3, 4, 5, 6, 7, 7];
+/// The kinds that a log's calls are drawn from. A direction stands twice, since many have a vector at the limits of the norm; so does a scalar
+/// update, which has no call of the original's own.
+const DRAWN: [u32; 9] = [1, 2, 3, 4, 4, 5, 6, 7, 7];
 
 /// How a log's numbers are.
 #[derive(Clone, Copy, PartialEq)]
@@ -103,7 +105,7 @@ pub fn call(n: &mut Numbers, manner: Manner, kind: u32, run: &[f64]) -> Vec<f64>
             parts.vector(n, 3, 1.0);
         }
         4 => {
-            parts.vector(n, 3, 1.0);
+            direction(n, &mut parts);
             direction(n, &mut parts);
         }
         5 if manner == Manner::Scaled && n.one_in(4) => return infinite_nis(n),
@@ -362,13 +364,13 @@ fn turning_update(n: &mut Numbers, parts: &mut Parts) {
     parts.matrix(n, &innovation);
 }
 
-/// A north; now and then one whose norm is 0, by underflow too, or infinite.
+/// What is measured, or north; now and then a vector whose norm is 0, hardly above it, or infinite.
 fn direction(n: &mut Numbers, parts: &mut Parts) {
-    if n.one_in(6) {
-        let size = n.one_of(&[0.0, -0.0, 1e-200, 1e-320, 1e200, f64::MAX]);
-        let north: [f64; 3] = core::array::from_fn(|_| size * n.one_of(&[1.0, 0.0, -0.5]));
-        parts.matrix(n, &north);
-    } else {
-        parts.vector(n, 3, 1.0);
-    }
+    let vector = match n.below(24) {
+        0 | 1 => null(n),
+        2 => short(n),
+        3 => long(n),
+        _ => return parts.vector(n, 3, 1.0),
+    };
+    parts.numbers.extend(vector);
 }

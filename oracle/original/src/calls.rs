@@ -103,6 +103,11 @@ impl Call {
         answer_of(nis)
     }
 
+    /// Whether a vector that the call normalises has norm 0. The original takes the zero vector for its direction.
+    fn is_null(&self) -> bool {
+        matches!(self, Self::Direction { measured, north, .. } if measured.norm() == 0.0 || north.norm() == 0.0)
+    }
+
     /// What an update measures, as the original forms it.
     fn measurement(&self, f: &EqFilter) -> Option<Box<dyn Measured>> {
         let (c, innovation, noise) = match self {
@@ -178,10 +183,13 @@ fn propagation_turns_too_far(f: &EqFilter, u: &Input, dt: f64) -> bool {
     too_far(&lift(&act_state(&half, &State::default()), u, f.gravity).scaled(dt))
 }
 
-/// Makes a call with checks 2 to 5. A refusal leaves the filter and `written`.
+/// Makes a call with the checks after that of the lengths: 2, 7, the original's own 4, 3 and 5. A refusal leaves the filter and `written`.
 pub fn checked(f: &mut EqFilter, call: &Call, numbers: &[f64], written: &mut [f64]) -> Answer {
     if !all_finite(&run_of(f)) || !all_finite(numbers) {
         return Answer::Refused(2);
+    }
+    if call.is_null() {
+        return Answer::Refused(7);
     }
     let (mut after, mut state) = (f.clone(), State::default());
     let answer = call.make(&mut after, &mut state);

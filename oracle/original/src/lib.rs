@@ -1,8 +1,9 @@
 //! The original's calls on runs of numbers, with the checks of docs/MANUAL.md around them.
 //!
-//! The original has one refusal, its None (4). The others are found here: the lengths and the numbers that are not finite before the call (1, 2),
-//! the turn (3) on the algebra elements that the original hands to `Symmetry::exp`, computed again by its own public functions, and results
-//! that are not finite (5). A refused call is made on a copy, which is dropped.
+//! The original has one refusal, its None (4). The others are found here. Before the call: the lengths (1), the numbers that are not finite (2),
+//! and a direction call's vectors of norm 0, by the original's own `Vec3::norm` (7). After it: the turn (3) on the algebra elements that the
+//! original hands to `Symmetry::exp`, computed again by its own public functions, and results that are not finite (5). A refused call is made on
+//! a copy, which is dropped.
 mod calls;
 mod measurement;
 pub mod places;

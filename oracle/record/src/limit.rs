@@ -9,7 +9,7 @@ use original::Answer;
 type Call = (u32, Vec<f64>);
 
 /// A filter whose A and E are given, with the identity as its covariance, alpha 0, no gravity, and all else zero.
-fn filter(a: [f64; 9], gamma: f64, e: f64) -> Vec<f64> {
+pub fn filter(a: [f64; 9], gamma: f64, e: f64) -> Vec<f64> {
     let mut run = vec![0.0; FILTER];
     run[..VELOCITY].copy_from_slice(&a);
     run[GAMMA] = gamma;
@@ -18,7 +18,7 @@ fn filter(a: [f64; 9], gamma: f64, e: f64) -> Vec<f64> {
     run
 }
 
-const IDENTITY: [f64; 9] = [1.0, 0.0, 0.0, 0.0, 1.0, 0.0, 0.0, 0.0, 1.0];
+pub const IDENTITY: [f64; 9] = [1.0, 0.0, 0.0, 0.0, 1.0, 0.0, 0.0, 0.0, 1.0];
 
 /// A propagation over dt.
 fn propagate(omega: [f64; 3], dt: f64) -> Call {

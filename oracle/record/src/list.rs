@@ -96,11 +96,11 @@ impl List {
     }
 }
 
-/// How often each kind gave each answer: accepted, 2, 3, 4 of the raw matrix, 5, and 4 of the inflated matrix.
+/// How often each kind gave each answer: accepted, 2, 3, 4 of the raw matrix, 5, 4 of the inflated matrix, and 7.
 #[derive(Default)]
 pub struct Tally([[usize; ANSWERS.len()]; LAST_KIND as usize]);
 
-const ANSWERS: [&str; 6] = ["accepted", "2", "3", "4 raw", "5", "4 inflated"];
+const ANSWERS: [&str; 7] = ["accepted", "2", "3", "4 raw", "5", "4 inflated", "7"];
 
 impl Tally {
     fn count(&mut self, kind: u32, answer: Answer, raw_factor: bool) {
@@ -127,9 +127,10 @@ impl Tally {
     pub fn expect_each_refusal(&self) {
         for (kind, row) in (1..).zip(&self.0) {
             let can = match kind {
-                1 => [true, true, true, false, true, false],
-                6 => [true, true, false, false, true, false],
-                _ => [true; 6],
+                1 => [true, true, true, false, true, false, false],
+                4 => [true; 7],
+                6 => [true, true, false, false, true, false, false],
+                _ => [true, true, true, true, true, true, false],
             };
             for (i, answer) in ANSWERS.iter().enumerate() {
                 assert!(!can[i] || row[i] > 0, "no call of kind {kind} gives {answer}");

@@ -125,11 +125,11 @@ fn turn(n: &mut Numbers, call: &mut Call) {
     }
 }
 
-/// Directions alone; north and what is measured of norm 0, of a norm that underflows or overflows, or ordinary.
+/// Directions alone; north and what is measured ordinary, of a norm that is 0, by underflow too, or hardly above it, or that overflows.
 fn point(n: &mut Numbers, call: &mut Call) {
     if call.0 == 4 {
         for at in [0, 3] {
-            let scale = n.one_of(&[1.0, 1.0, 0.0, -0.0, 1e-200, 1e-300, 1e200]);
+            let scale = n.one_of(&[1.0, 1.0, 1.0, 1.0, 0.0, -0.0, 1e-200, 1e-161, 1e200]);
             call.1[at..at + 3].iter_mut().for_each(|x| *x *= scale);
         }
     }

@@ -3,6 +3,7 @@ mod leaves;
 mod limit;
 mod list;
 mod lists;
+mod null;
 mod starts;
 
 use list::{List, Tally};
@@ -37,7 +38,7 @@ fn main() {
     let folder = env::args().nth(1).expect("record FOLDER");
     let folder = Path::new(&folder);
     let mut all = Tally::default();
-    for list in lists::all().iter().chain(&limit::all()) {
+    for list in lists::all().iter().chain(&limit::all()).chain([&null::list()]) {
         write_list(folder, list);
         list.tally.print(list.name);
         all.add(&list.tally);

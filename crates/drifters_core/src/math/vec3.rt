@@ -14,6 +14,12 @@ pub struct Vec3 {
     pub z: f64,
 }
 
+// A vector over its norm, or that there is none.
+pub enum Normalized {
+    Unit(Vec3),
+    None,
+}
+
 impl Vec3 {
     // The zero vector.
     pub const ZERO: Vec3 = Vec3 {
@@ -78,12 +84,16 @@ impl Vec3 {
         self.dot(self)
     }
 
-    // The zero vector where the norm is not above 0.
-    pub fn normalized(self) -> Vec3
+    // None where the norm is not above 0, which the original answers by the zero vector: that is no direction.
+    pub fn normalized(self) -> Normalized
         ensures { λ r. ⌜ r ≡ normalized self ⌝ }
     {
         let n = self.norm();
-        if n > 0.0 { self.div(n) } else { Vec3::ZERO }
+        if n > 0.0 {
+            Normalized::Unit(self.div(n))
+        } else {
+            Normalized::None
+        }
     }
 
     pub fn component_mul(self, rhs: Vec3) -> Vec3

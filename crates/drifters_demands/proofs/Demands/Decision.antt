@@ -2,7 +2,7 @@
 use mathlib.Core.Path.{_≡_, refl, sym, ap, _∙_}
 use mathlib.Core.Bool.{Bool, true, false, not, _&&_, cond, true≢false, and-true, and-eq-true-iff}
 use mathlib.Core.List.{List, [], _∷_}
-use Prim.Native.Nat.{ℕ, zero, suc}
+use Prim.Native.Nat.{ℕ, suc}
 use native.Mathlib.Nat.{suc-ne-zero}
 use borrow.Author.Tests.{eqb-true}
 use lib.Dec.{eqb}
@@ -10,21 +10,22 @@ use lib.ListN.{length}
 use lib.Ieee.{Float}
 use Rattle.drifters_real.specs.Real.{isFinite}
 use Rattle.drifters_matrix.specs.Matrix.{allFinite}
-use Rattle.drifters_eqf.specs.Answer.{rangeRefusal, numberOf, valuesOf}
+use Rattle.drifters_eqf.specs.Answer.{rangeRefusal, nullRefusal, numberOf, valuesOf}
 use Rattle.drifters_cholesky.specs.Cholesky.{definite, entriesOf}
 use Rattle.drifters_gcu.specs.Gcu.{nis}
 use Rattle.drifters_eqf.specs.Filter.{turnFits, refuse, navState, halfStep, fullStep, propagated, propagate, rawFactor, inflatedFactor, gain, correction, step, corrected, applied, update}
 use Rattle.drifters_entry.specs.Layout.{filterLength, startLength, fromRun, toRun, stateToRun}
 use Rattle.drifters_kind.specs.Kind.{formOf, callLength, writtenLength}
 use Rattle.drifters_entry.specs.Entry.{Request, refusal, propagation, measurement, estimate, requestOf, Outcome, outcomeOf, performed, refused, finiteOutcome, ifFinite, rangeCheckedAs, rangeChecked, lengthsFit, call, started, start}
-use Rattle.drifters_demands.specs.Demands.{Check, unless, firstOf, laterChecks, checks, startChecks, Checked, acceptedOutcome}
+use Rattle.drifters_demands.specs.Demands.{Check, unless, firstOf, hasNull, laterChecks, checks, startChecks, Checked, acceptedOutcome}
 use Rattle.drifters_eqf.specs.declared.filter.EqFilter.{EqFilter}
 use Rattle.drifters_eqf.specs.declared.filter.Answer.{Answer}
 use Rattle.drifters_eqf.specs.declared.filter.Answer.the-variants.{Nis, Fine, Refused}
 use Rattle.drifters_eqf.specs.declared.filter.Answered.{Answered}
 use Rattle.drifters_kind.specs.declared.kind.Kind.{Kind}
-use Rattle.drifters_entry.proofs.KindLaws.{writtenBy, Numbered, kind-laws}
+use Rattle.drifters_entry.proofs.KindLaws.{writtenBy, kind-laws}
 use Rattle.drifters_entry.proofs.Calls.{no-numbers}
+use Rattle.drifters_demands.proofs.Demands.Null.{Asks, AsksBy, call-asks}
 
 -- ---- decisions
 
@@ -114,16 +115,15 @@ module _ (run written : List Float) where
 -- ---- what is asked of the filter
 
 request-decision :
-    (r : Request) (f : EqFilter) (run written : List Float) → allFinite run ≡ true → Numbered r → length written ≡ writtenBy r
+    (r : Request) (f : EqFilter) (run written : List Float) → allFinite run ≡ true → Asks r → length written ≡ writtenBy r
     → Decision run written (acceptedOutcome r f run written) (firstOf (laterChecks r f)) (rangeChecked (performed r f run written) run written)
 unfolding performed propagate update applied firstOf allFinite rangeChecked
-request-decision (refusal zero) f run written finite own none = absurd (own refl)
-request-decision (refusal (suc n)) f run written finite own none = refuses n
-request-decision (propagation u dt q) f run written finite own none =
+request-decision (refusal n) f run written finite asks none = absurd asks
+request-decision (propagation u dt q) f run written finite asks none =
     check-answered 2 (turnFits (halfStep f u dt)) _ f
     (check-answered 2 (turnFits (fullStep f u dt)) _ f
     (in-range run written (acceptedOutcome (propagation u dt q) f run written) (allFinite (toRun (propagated f u dt q))) refl (rw (no-numbers written none))))
-request-decision (measurement w m noise alpha) f run written finite own none =
+request-decision (measurement w m noise alpha) f run written finite asks none =
     let c = m .output in
     let y = m .innovation in
     let u = correction w (gain w f c y noise alpha) c y noise in
@@ -133,8 +133,17 @@ request-decision (measurement w m noise alpha) f run written finite own none =
     (check-answered 3 (definite (inflatedFactor w f c y noise alpha)) _ f
     (check-answered 2 (turnFits (step u)) _ f
     (in-range run written (acceptedOutcome (measurement w m noise alpha) f run written) (value && left) refl (ap (λ (b : Bool). b && left) (and-true value)))))
-request-decision estimate f run written finite own none =
+request-decision estimate f run written finite asks none =
     in-range run written (acceptedOutcome estimate f run written) (allFinite (stateToRun (navState f))) refl (rw finite (and-true _))
+
+-- the check for null vectors, in front of the others
+null-decision :
+    (null : Bool) (r : Request) (f : EqFilter) (run written : List Float) → AsksBy null r
+    → (Asks r → Decision run written (acceptedOutcome r f run written) (firstOf (laterChecks r f)) (rangeChecked (performed r f run written) run written))
+    → Decision run written (acceptedOutcome r f run written) (firstOf (unless nullRefusal (not null) ∷ laterChecks r f)) (rangeChecked (performed r f run written) run written)
+unfolding performed firstOf rangeChecked
+null-decision true r f run written asks next = rw asks (refuses 6)
+null-decision false r f run written asks next = next asks
 
 -- ---- calls
 
@@ -149,9 +158,12 @@ unfolding call firstOf
 call-decision kind run v written =
     check 0 (lengthsFit (formOf kind) run v (length written)) _ (λ fits.
     check 1 (allFinite run && allFinite v) _ (λ finite.
-    let n = eqb-true (length written) (writtenLength kind) (and-eq-true-iff (eqb (length run) filterLength && eqb (length v) (callLength kind)) _ .0 fits .1) in
-    request-decision (requestOf kind (fromRun run) v) (fromRun run) run written (and-eq-true-iff (allFinite run) _ .0 finite .0)
-    (kind-laws kind .own (fromRun run) v) (n ∙ kind-laws kind .writes (fromRun run) v)))
+    let runs = and-eq-true-iff (eqb (length run) filterLength && eqb (length v) (callLength kind)) _ .0 fits in
+    let l = eqb-true (length v) (callLength kind) (and-eq-true-iff (eqb (length run) filterLength) _ .0 (runs .0) .1) in
+    let n = eqb-true (length written) (writtenLength kind) (runs .1) in
+    let each = and-eq-true-iff (allFinite run) _ .0 finite in
+    null-decision (hasNull kind v) (requestOf kind (fromRun run) v) (fromRun run) run written (call-asks kind (fromRun run) v l (each .1)) (λ asks.
+    request-decision (requestOf kind (fromRun run) v) (fromRun run) run written (each .0) asks (n ∙ kind-laws kind .writes (fromRun run) v))))
 
 pub start-decision : (run v : List Float) → Decision run [] (record { answer = Fine; run = started v; written = [] }) (firstOf (startChecks run v)) (start run v)
 unfolding start firstOf allFinite

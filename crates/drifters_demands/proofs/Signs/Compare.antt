@@ -38,7 +38,7 @@ below-zero-r false true a = refl
 below-zero-r true false a = simp add-zero
 below-zero-r true true a = refl
 
-lt-zero-fin-l : (s t : Bool) (e d : ℤ) (n : ℕ) → lt (fin s 0 e) (fin t n d) ≡ (not t && ltb 0 n)
+pub lt-zero-fin-l : (s t : Bool) (e d : ℤ) (n : ℕ) → lt (fin s 0 e) (fin t n d) ≡ (not t && ltb 0 n)
 lt-zero-fin-l s t e d n = rw (lt-fin, zero-mul, zero-mul, below-zero-l, above)
 
 lt-zero-fin-r : (t s : Bool) (d e : ℤ) (m : ℕ) → lt (fin s m e) (fin t 0 d) ≡ (s && ltb 0 m)

@@ -2,8 +2,9 @@
 use Prim.Native.Nat.{ℕ, _+_, _*_, _<_}
 use native.Mathlib.Omega.{arith}
 use mathlib.Core.Path.{_≡_, refl, sym, ap, ap₂, _∙_, subst, subst₂}
-use mathlib.Core.Bool.{Bool, true, _&&_, and-eq-true-iff}
+use mathlib.Core.Bool.{Bool, true, false, _&&_, and-eq-true-iff}
 use mathlib.Core.List.{List}
+use mathlib.Core.Option.{Option}
 use borrow.Author.Tests.{eqb-true}
 use lib.Dec.{eqb, lit<}
 use lib.ListN.{length, take, drop, length-replicate, getD-replicate}
@@ -11,17 +12,18 @@ use lib.Seq.{getD-take, getD-drop, drop-drop}
 use lib.Ieee.{Float, nan}
 use Rattle.drifters_real.specs.Scalar.{plusZero}
 use Rattle.drifters_matrix.specs.Matrix.{allFinite, zeros}
-use Rattle.drifters_demands.specs.Like.{Signs, axis, LikeList, LikeVec3, LikeMatrix, noTurn}
+use Rattle.drifters_demands.specs.Like.{Like, Signs, axis, LikeList, LikeVec3, LikeMatrix, noTurn}
 use Rattle.drifters_demands.proofs.Signs.Sign.{not-not}
 use Rattle.drifters_demands.proofs.Signs.Like.{like-as, like-plusZero, cond-keeps}
 use Rattle.drifters_demands.proofs.Signs.Real.{like-isFinite}
 use Rattle.drifters_demands.proofs.Signs.Matrix.{like-allFinite-list}
 use Rattle.drifters_eqf.specs.Answer.{lengthRefusal, blankRefusal, rangeRefusal, valuesOf}
 use Rattle.drifters_lie.specs.Lie.{vec3At}
+use Rattle.drifters_eqf.specs.Filter.{Measurement}
 use Rattle.drifters_covariance.specs.Covariance.{inputAt}
 use Rattle.drifters_entry.specs.Layout.{filterLength, part, fromRun, toRun, stateToRun, SizedFilter, SizedState}
 use Rattle.drifters_kind.specs.Kind.{formOf, callLength, writtenLength}
-use Rattle.drifters_entry.specs.Entry.{Request, processNoiseAt, requestOf, Outcome, outcomeOf, performed, refused, finiteOutcome, ifFinite, rangeCheckedAs, rangeChecked, lengthsFit, call}
+use Rattle.drifters_entry.specs.Entry.{Request, processNoiseAt, directionRequest, requestOf, Outcome, outcomeOf, performed, refused, finiteOutcome, ifFinite, rangeCheckedAs, rangeChecked, lengthsFit, call}
 use Rattle.drifters_demands.specs.Turn.{plain, thenSigns, matrixSigns, noiseSigns, filterSigns, callSigns, stateSigns}
 use Rattle.drifters_symmetry.specs.declared.group.State.{State as StateRecord}
 use Rattle.drifters_eqf.specs.declared.filter.EqFilter.{EqFilter}
@@ -32,7 +34,7 @@ use Rattle.drifters_kind.specs.declared.kind.Kind.the-variants.{Propagate, Posi
 use Rattle.drifters_entry.proofs.RoundTrips.{roundTrips, length-toRun, length-stateToRun, sized-fromRun}
 use Rattle.drifters_demands.proofs.Sizes.{sized-propagate, sized-update, sized-navState}
 use Rattle.drifters_demands.proofs.Signs.GroupRecords.{LikeState, LikeInput}
-use Rattle.drifters_demands.proofs.Signs.FilterRecords.{LikeProcessNoise, LikeFilter, LikeAnswer, both-nis, both-fine, both-refused, LikeAnswered, LikeMeasurement, LikeRequest, like-refusal, like-propagation, like-measurement, like-estimate}
+use Rattle.drifters_demands.proofs.Signs.FilterRecords.{LikeProcessNoise, LikeFilter, LikeAnswer, both-nis, both-fine, both-refused, LikeAnswered, LikeMeasurement, LikeMeasured, both-measured, both-unmeasured, LikeRequest, like-refusal, like-propagation, like-measurement, like-estimate}
 use Rattle.drifters_demands.proofs.Signs.Filter.{like-navState, like-propagate, like-update, like-measuredPosition, like-measuredVelocity, like-measuredDirection}
 use Rattle.drifters_demands.proofs.Signs.Layout.{Turned, like-first, like-rest, like-part, like-fromRun, like-of-fromRun, like-of-stateFromRun}
 
@@ -170,6 +172,12 @@ module _ (s : Signs) {v w : List Float} where
 
 -- ---- what a call asks
 
+-- a direction that is alike measured, or alike not
+like-directionRequest : {s : Signs} {p q : Option Measurement} {noise noise' : List Float} {a b : Float} → LikeMeasured s p q
+    → LikeMatrix (axis s) (axis s) 3 3 noise noise' → Like false a b → LikeRequest s (directionRequest p noise a) (directionRequest q noise' b)
+like-directionRequest (both-measured M) N alpha = like-measurement M N alpha
+like-directionRequest both-unmeasured N alpha = like-refusal
+
 -- a kind's numbers that take its signs ask for what is alike
 like-request : {s : Signs} {f g : EqFilter} → LikeFilter s noTurn noTurn f g → (kind : Kind) {v w : List Float} → LikeList (callSigns kind s) (callLength kind) v w
     → LikeRequest s (requestOf kind f v) (requestOf kind g w)
@@ -183,7 +191,7 @@ like-request {s} F Velocity h =
     record { x = h .entry 3 (lit< tt); y = h .entry 4 (lit< tt); z = h .entry 5 (lit< tt) })
     (noise-after-six (axis s) plain h) (F .alpha)
 like-request {s} F Direction h =
-    like-measurement
+    like-directionRequest
     (like-measuredDirection (F .x) record { x = h .entry 0 (lit< tt); y = h .entry 1 (lit< tt); z = h .entry 2 (lit< tt) }
     record { x = h .entry 3 (lit< tt); y = h .entry 4 (lit< tt); z = h .entry 5 (lit< tt) })
     (noise-after-six plain (axis s) h) (F .alpha)

@@ -8,19 +8,20 @@ use lib.Ieee.{Float, nan, unlike}
 use Rattle.drifters_matrix.specs.Matrix.{matrix}
 use Rattle.drifters_demands.specs.Like.{Like, Signs, axis, LikeList, LikeVec3, LikeMatrix, noTurn}
 use Rattle.drifters_core.specs.declared.math.vec3.Vec3.{Vec3}
+use Rattle.drifters_core.specs.declared.math.vec3.Normalized.{Normalized}
 use Rattle.drifters_demands.proofs.Signs.Sign.{unlike-same, unlike-false, axis-add}
 use Rattle.drifters_demands.proofs.Signs.Like.{cond-keeps, like-as, like-refl}
 use Rattle.drifters_demands.proofs.Signs.Ops.{like-mul}
 use Rattle.drifters_demands.proofs.Signs.Compare.{like-le}
 use Rattle.drifters_demands.proofs.Signs.Real.{like-abs}
-use Rattle.drifters_demands.proofs.Signs.Vec3.{like-vec3-refl, like-vec3-as, like-toArray, like-subVec3, like-norm, like-normalized, like-skew}
+use Rattle.drifters_demands.proofs.Signs.Vec3.{like-vec3-refl, like-vec3-as, like-toArray, like-subVec3, like-norm, LikeNormalized, both-units, both-none, like-normalized, like-skew}
 use Rattle.drifters_demands.proofs.Signs.Matrix.{like-matrix, like-zeros, like-column, like-of-column, like-transpose, like-addMatrix, like-matmul, like-mulTranspose, like-fromDiagonal, like-identity, like-symmetrize, like-mulMat3Vec3}
 use Rattle.drifters_demands.proofs.Signs.Cholesky.{LikeFactor, like-cholesky, like-solve}
 use Rattle.drifters_demands.proofs.Signs.Numeral.{scaled-of, negMatrix-of, addMatrix-of, subMatrix-of}
 use Rattle.drifters_symmetry.specs.Group.{toArray21}
 use Rattle.drifters_symmetry.specs.Lift.{lift}
 use Rattle.drifters_covariance.specs.Covariance.{transition, inputColumn, biasColumn, noiseMap, psd, processNoise, joseph, resetSigma}
-use Rattle.drifters_eqf.specs.Filter.{turnFits, refuse, navState, halfStep, midpoint, fullStep, propagatedSigma, propagated, propagate, projected, rawFactor, inflatedFactor, gain, Correction, correction, step, corrected, applied, update, measuredPosition, measuredVelocity, measuredDirection}
+use Rattle.drifters_eqf.specs.Filter.{turnFits, refuse, navState, halfStep, midpoint, fullStep, propagatedSigma, propagated, propagate, projected, rawFactor, inflatedFactor, gain, Correction, correction, step, corrected, applied, update, measuredPosition, measuredVelocity, measuredUnits, measuredDirection}
 use Rattle.drifters_lie.specs.declared.lie.Se3Tangent.{Se3Tangent}
 use Rattle.drifters_symmetry.specs.declared.group.Symmetry.{Symmetry}
 use Rattle.drifters_symmetry.specs.declared.group.Algebra.{Algebra}
@@ -29,7 +30,7 @@ use Rattle.drifters_symmetry.specs.declared.lift.Input.{Input}
 use Rattle.drifters_covariance.specs.declared.covariance.ProcessNoise.{ProcessNoise}
 use Rattle.drifters_eqf.specs.declared.filter.EqFilter.{EqFilter}
 use Rattle.drifters_demands.proofs.Signs.GroupRecords.{axis-noTurn, LikeSe3Tangent, LikeSymmetry, LikeAlgebra, LikeState, LikeInput}
-use Rattle.drifters_demands.proofs.Signs.FilterRecords.{LikeProcessNoise, LikeFilter, both-nis, both-fine, both-refused, LikeAnswered, LikeMeasurement}
+use Rattle.drifters_demands.proofs.Signs.FilterRecords.{LikeProcessNoise, LikeFilter, both-nis, both-fine, both-refused, LikeAnswered, LikeMeasurement, LikeMeasured, both-measured, both-unmeasured}
 use Rattle.drifters_demands.proofs.Signs.Lie.{like-setBlock-axis, like-toArray-append, like-toArraySe3, like-chi, like-adjointApplySe3}
 use Rattle.drifters_demands.proofs.Signs.Group.{like-compose, like-toArray21, like-scaledAlgebra, like-fromArray21, like-ad, like-exp, like-adjointApply, like-defaultState, like-actState}
 use Rattle.drifters_demands.proofs.Signs.Lift.{like-lift}
@@ -240,10 +241,16 @@ module _ {s b m : Signs} {x x' : Symmetry} (X : LikeSymmetry s b s m x x') where
       let transported = like-transportedVelocity X k in
       record { output = like-velocityOutputMatrix h transported (like-mulMat3Vec3 (X .c .rotation) k); innovation = like-toArray (like-subVec3 transported h) }
 
+  like-measuredUnits : {u u' o o' : Normalized} → LikeNormalized (axis m) u u' → LikeNormalized (axis s) o o'
+      → LikeMeasured s (measuredUnits x u o) (measuredUnits x' u' o')
+  like-measuredUnits (both-units unit) (both-units origin) =
+      let transported = like-transportedDirection X unit in
+      both-measured record { output = like-directionOutputMatrix origin transported; innovation = like-toArray (like-mulMat3Vec3 (like-skew origin) transported) }
+  like-measuredUnits (both-units unit) both-none = both-unmeasured
+  like-measuredUnits both-none (both-units origin) = both-unmeasured
+  like-measuredUnits both-none both-none = both-unmeasured
+
   pub like-measuredDirection : {measured measured' north north' : Vec3} → LikeVec3 (axis m) measured measured' → LikeVec3 (axis s) north north'
-      → LikeMeasurement (axis s) s 3 (measuredDirection x measured north) (measuredDirection x' measured' north')
+      → LikeMeasured s (measuredDirection x measured north) (measuredDirection x' measured' north')
   unfolding measuredDirection
-  like-measuredDirection h k =
-      let origin = like-normalized k in
-      let transported = like-transportedDirection X (like-normalized h) in
-      record { output = like-directionOutputMatrix origin transported; innovation = like-toArray (like-mulMat3Vec3 (like-skew origin) transported) }
+  like-measuredDirection h k = like-measuredUnits (like-normalized h) (like-normalized k)

@@ -2,6 +2,7 @@
 -- body's, m the magnetometer's. Assumes nothing.
 use mathlib.Core.Bool.{Bool, false}
 use mathlib.Core.List.{List}
+use mathlib.Core.Option.{Option, none, some}
 use Prim.Native.Nat.{ℕ}
 use lib.Ieee.{Float}
 use Rattle.drifters_demands.specs.Like.{Like, Signs, axis, LikeList, LikeVec3, LikeMatrix, noTurn}
@@ -44,6 +45,11 @@ pub record LikeAnswered (s b m : Signs) (a z : Answered) : Type 0 where
 pub record LikeMeasurement (σ : ℕ → Bool) (s : Signs) (w : ℕ) (z y : Measurement) : Type 0 where
   pub output : LikeMatrix σ (axis s) w 21 (z .output) (y .output)
   pub innovation : LikeList σ w (z .innovation) (y .innovation)
+
+-- what two directions measure: both three numbers, or both nothing
+pub data LikeMeasured (s : Signs) : Option Measurement → Option Measurement → Type 0 where
+  both-measured : {z y : Measurement} → LikeMeasurement (axis s) s 3 z y → LikeMeasured s (some z) (some y)
+  both-unmeasured : LikeMeasured s none none
 
 -- what two calls ask: the same refusal of its own; a propagation, the body not turned; a measurement of w numbers, whatever signs they take; the estimate
 pub data LikeRequest (s : Signs) : Request → Request → Type 0 where

@@ -11,6 +11,8 @@ use Rattle.drifters_matrix.specs.Matrix.{at}
 use Rattle.drifters_core.specs.Vec3.{zeroVec3, toArray, dot, cross, normSquared, norm, divVec3, normalized, mat3, skew, amaxVec3, addVec3, subVec3, negVec3, mulVec3}
 use Rattle.drifters_demands.specs.Like.{Like, Signs, axis, LikeList, LikeVec3, LikeMatrix}
 use Rattle.drifters_core.specs.declared.math.vec3.Vec3.{Vec3}
+use Rattle.drifters_core.specs.declared.math.vec3.Normalized.{Normalized}
+use Rattle.drifters_core.specs.declared.math.vec3.Normalized.the-variants.{Unit, None}
 use Rattle.drifters_demands.proofs.Signs.Sign.{unlike-same, unlike-false, axis-1-2, axis-2-1, axis-2-0, axis-0-2, axis-0-1, axis-1-0}
 use Rattle.drifters_demands.proofs.Signs.Like.{cond-keeps, like-as, like-refl, like-plusZero, like-neg}
 use Rattle.drifters_demands.proofs.Signs.Ops.{like-add, like-sub, like-mul, like-mul-as, like-div-equal}
@@ -93,9 +95,15 @@ pub like-norm : {σ : ℕ → Bool} {v v' : Vec3} → LikeVec3 σ v v' → Like 
 unfolding norm
 like-norm h = like-sqrt (like-normSquared h)
 
-pub like-normalized : {σ : ℕ → Bool} {v v' : Vec3} → LikeVec3 σ v v' → LikeVec3 σ (normalized v) (normalized v')
+-- both normalised, or both not: a norm takes no sign
+pub data LikeNormalized (σ : ℕ → Bool) : Normalized → Normalized → Type 0 where
+  both-units : {v v' : Vec3} → LikeVec3 σ v v' → LikeNormalized σ (Unit v) (Unit v')
+  both-none : LikeNormalized σ None None
+
+pub like-normalized : {σ : ℕ → Bool} {v v' : Vec3} → LikeVec3 σ v v' → LikeNormalized σ (normalized v) (normalized v')
 unfolding normalized
-like-normalized {σ} h = cond-keeps (LikeVec3 σ) (like-lt (like-refl {x = plusZero}) (like-norm h)) (λ e. like-divVec3 h (like-above (like-norm h) e)) (λ e. like-zeroVec3)
+like-normalized {σ} h =
+    cond-keeps (LikeNormalized σ) (like-lt (like-refl {x = plusZero}) (like-norm h)) (λ e. both-units (like-divVec3 h (like-above (like-norm h) e))) (λ e. both-none)
 
 pub like-cross : {s : Signs} {v v' w w' : Vec3} → LikeVec3 (axis s) v v' → LikeVec3 (axis s) w w' → LikeVec3 (axis s) (cross v w) (cross v' w')
 unfolding cross

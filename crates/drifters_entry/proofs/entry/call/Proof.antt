@@ -3,7 +3,7 @@ use mathlib.Core.Path.{_≡_, refl, subst}
 use native.Mathlib.Omega.{arith}
 use borrow.Author.Needs.{needs}
 use Rattle.drifters_entry.specs.Layout.{fromRun}
-use Rattle.drifters_entry.specs.Entry.{requestOf}
+use Rattle.drifters_entry.specs.Entry.{requestOf, performed, rangeChecked}
 use Rattle.drifters_entry.specs.Asked.{asRequest, Readable}
 use Rattle.drifters_entry.specs.declared.entry.Action.{Action}
 use Rattle.drifters_entry.proofs.Calls.{Passed, passed, call-refused, asked-length, call-asked, call-made}
@@ -65,6 +65,13 @@ returns-5 c =
     let k = t .before .before in
     call-asked _ _ _ _ (asks k (t .enum-told4 .given .1) .0) (fits (k .before .before)) (w .write-estimate .ensures)
 
+returns-6 : tie.Need-returns-6
+unfolding performed rangeChecked
+returns-6 c =
+    let t = c .before in
+    let k = t .before .before in
+    call-asked _ _ _ _ (asks k (t .action .given .1) .0) (fits (k .before .before)) refl
+
 pub call-spec : {M : Type 1} → statement M
 call-spec =
     tie.close
@@ -89,6 +96,7 @@ call-spec =
     let p = fits (k .before .before) in
     (p .run-length, asked-length _ _ _ _ (asks k (t .enum-told4 .given .1) .0) p, p .run-finite))
     (λ c. search needs)
+    (λ c. search needs)
     returns-2
     (λ c. search needs)
     returns-3
@@ -96,4 +104,6 @@ call-spec =
     returns-4
     (λ c. search needs)
     (λ c. search needs)
-    returns-5)
+    returns-5
+    (λ c. search needs)
+    returns-6)

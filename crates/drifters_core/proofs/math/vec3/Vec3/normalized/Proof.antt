@@ -1,9 +1,10 @@
 -- `Vec3::normalized` meets its contract.
-use mathlib.Core.Path.{_≡_}
+use mathlib.Core.Path.{_≡_, ap}
 use mathlib.Core.Bool.{true}
 use lib.Ieee.{lt}
 use Rattle.drifters_real.specs.Scalar.{plusZero}
 use Rattle.drifters_core.specs.Vec3.{normalized}
+use Rattle.drifters_core.specs.declared.math.vec3.Normalized.the-variants.{Unit}
 use Rattle.drifters_core.proofs.math.vec3.Vec3.normalized.Statement.{statement}
 use Rattle.drifters_core.proofs.math.vec3.Vec3.normalized.Tie as tie
 
@@ -11,7 +12,7 @@ returns : tie.Need-returns
 unfolding normalized
 returns c =
     let above : lt plusZero (c .before .before .norm .result) ≡ true = c .before .if1 .taken in
-    rw (← c .before .before .norm .ensures, above) (c .div .ensures)
+    rw (← c .before .before .norm .ensures, above) (ap Unit (c .div .ensures))
 
 returns-2 : tie.Need-returns-2
 unfolding normalized
