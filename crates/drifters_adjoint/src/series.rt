@@ -1,10 +1,10 @@
 // The series of `integrated_adjoint`: its sum by 3 by 3 blocks where every number is finite, and in general. Private to the crate.
 ghost use mathlib.Core.Path.{_≡_};
 ghost use Prim.Native.Nat.{_<_};
-ghost use Rattle.drifters_matrix.specs.Matrix.{addMatrix};
+ghost use Rattle.drifters_matrix.specs.Matrix.{matrix, scaled, addMatrix};
 ghost use Rattle.drifters_lie.specs.Lie.{adSe3};
 ghost use Rattle.drifters_adjoint.specs.Adjoint.{series};
-ghost use Rattle.drifters_adjoint.specs.Series.{whole, identityBlocks, adBlocks, addTerms, timesBlocks, blocksSeries};
+ghost use Rattle.drifters_adjoint.specs.Series.{whole, identityBlocks, adBlocks, productAt, addTerms, blocksSeries};
 use drifters_lie::lie::Se3Tangent;
 use drifters_matrix::math::matrix::all_finite;
 use drifters_matrix::math::shapes::Mat6;
@@ -124,24 +124,38 @@ impl Blocks {
         }
     }
 
-    // The product with m, times s. With P and Q of the matrix and R and S of m it has P R, and Q R + P S: first the terms of Q, then those of P.
-    fn times(self, m: Blocks, s: f64) -> Blocks
-        ensures { λ r. ⌜ r .data ≡ timesBlocks (self .data) (m .data) s ⌝ }
+    // The product with m. With P and Q of the matrix and R and S of m it has P R, and Q R + P S: first the terms of Q, then those of P. Carried
+    // along are the start of the row that is made, s, and that of the row of P beside a row of Q, `upper`.
+    fn matmul(self, m: Blocks) -> Blocks
+        ensures { λ r. ⌜ r .data ≡ matrix 6 3 (productAt (self .data) (m .data)) ⌝ }
     {
         let mut data = [0.0; 18];
-        for i in 0..3 {
+        let mut s = 0;
+        for _ in 0usize..3 {
             for j in 0..3 {
-                data[i * 3 + j] = add_terms(0.0, &self.data, i * 3, &m.data, j) * s;
+                data[s + j] = add_terms(0.0, &self.data, s, &m.data, j);
             }
+            s += 3;
         }
-        for i in 3..6 {
-            let upper = (i - 3) * 3;
-            let lower = i * 3;
+        let mut upper = 0;
+        for _ in 3usize..6 {
             for j in 0..3 {
                 let below = j + 9;
-                let sum = add_terms(0.0, &self.data, lower, &m.data, j);
-                data[lower + j] = add_terms(sum, &self.data, upper, &m.data, below) * s;
+                let sum = add_terms(0.0, &self.data, s, &m.data, j);
+                data[s + j] = add_terms(sum, &self.data, upper, &m.data, below);
             }
+            upper += 3;
+            s += 3;
+        }
+        Blocks { data }
+    }
+
+    fn scaled(self, s: f64) -> Blocks
+        ensures { λ r. ⌜ r .data ≡ scaled 18 (self .data) s ⌝ }
+    {
+        let mut data = self.data;
+        for k in 0..18 {
+            data[k] = data[k] * s;
         }
         Blocks { data }
     }
@@ -164,7 +178,9 @@ impl Blocks {
         let mut term = Blocks::identity();
         let mut psi = term;
         for k in 1u32..16 {
-            term = term.times(m, 1.0 / (k + 1) as f64);
+            // Before the product, so that the division does not wait for its sums.
+            let factor = 1.0 / (k + 1) as f64;
+            term = term.matmul(m).scaled(factor);
             psi = psi.add(term);
         }
         psi

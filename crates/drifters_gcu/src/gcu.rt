@@ -1,7 +1,9 @@
 // Port of gcu.rs: inflation of the innovation covariance by the normalised innovation squared, over the width.
 ghost use mathlib.Core.Path.{_≡_};
-ghost use Prim.Native.Nat.{_*_};
 ghost use lib.ListN.{length};
+ghost use Rattle.drifters_real.specs.Scalar.{_⊗_, plusZero, one};
+ghost use Rattle.drifters_real.specs.Real.{clamp};
+ghost use Rattle.drifters_matrix.specs.Matrix.{scaled, addMatrix};
 ghost use Rattle.drifters_gcu.specs.Gcu.{dotVector, beta, nis, inflatedBy, inflate};
 use drifters_cholesky::math::cholesky::Cholesky1;
 use drifters_cholesky::math::cholesky::Cholesky3;
@@ -35,8 +37,9 @@ pub fn inflate(innovation: Vector3, projected: Mat3, noise: Mat3, alpha: f64) ->
 pub fn inflate_at1(r: f64, innovation: Mat1, projected: Mat1, noise: Mat1, alpha: f64) -> Mat1
     ensures { λ s. ⌜ s .data ≡ inflatedBy 1 (beta r) (innovation .data) (projected .data) (noise .data) alpha ⌝ }
 {
+    let outer = innovation.mul_transpose(innovation);
     let mut data = projected.data;
-    inflate_in(&mut data, &innovation.data, &noise.data, r, alpha, 1);
+    inflate_in(&mut data, &outer.data, &noise.data, r, alpha, 1);
     Mat1 { data }
 }
 
@@ -44,24 +47,22 @@ pub fn inflate_at1(r: f64, innovation: Mat1, projected: Mat1, noise: Mat1, alpha
 pub fn inflate_at3(r: f64, innovation: Vector3, projected: Mat3, noise: Mat3, alpha: f64) -> Mat3
     ensures { λ s. ⌜ s .data ≡ inflatedBy 3 (beta r) (innovation .data) (projected .data) (noise .data) alpha ⌝ }
 {
+    let outer = innovation.mul_transpose(innovation);
     let mut data = projected.data;
-    inflate_in(&mut data, &innovation.data, &noise.data, r, alpha, 3);
+    inflate_in(&mut data, &outer.data, &noise.data, r, alpha, 9);
     Mat3 { data }
 }
 
-// The n by n matrix `m` from the projected covariance to the inflated one, at the normalised innovation squared r.
-fn inflate_in(m: &mut [f64], y: &[f64], noise: &[f64], r: f64, alpha: f64, n: usize)
-    requires { ⌜ (length (now m) ≡ n * n) × (length (now y) ≡ n) × (length (now noise) ≡ n * n) ⌝ }
-    ensures { λ _. ⌜ now (m .exit) ≡ inflatedBy n (beta r) (now (y .entry)) (now (m .entry)) (now (noise .entry)) alpha ⌝ }
+// The n entries `m` of the projected covariance to those of the inflated one, at the normalised innovation squared r. `outer` has the entries of
+// y yᵀ.
+fn inflate_in(m: &mut [f64], outer: &[f64], noise: &[f64], r: f64, alpha: f64, n: usize)
+    requires { ⌜ (length (now m) ≡ n) × (length (now outer) ≡ n) × (length (now noise) ≡ n) ⌝ }
+    ensures { λ _. ⌜ now (m .exit) ≡ addMatrix n (addMatrix n (scaled n (now (m .entry)) (beta r)) (scaled n (now (outer .entry)) (beta r ⊗ clamp alpha plusZero one))) (now (noise .entry)) ⌝ }
 {
     let b = beta(r);
     let share = b * clamp(alpha, 0.0, 1.0);
-    for i in 0..n {
-        for j in 0..n {
-            let k = i * n + j;
-            let outer = 0.0 + y[i] * y[j];
-            m[k] = m[k] * b + outer * share + noise[k];
-        }
+    for k in 0..n {
+        m[k] = m[k] * b + outer[k] * share + noise[k];
     }
 }
 

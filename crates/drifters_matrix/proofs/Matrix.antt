@@ -1,6 +1,7 @@
 -- The laws of matrices as flat lists.
 pub mod Tab
 pub mod Grid
+pub mod RowStart
 pub mod Elements
 pub mod Sums
 pub mod Skips

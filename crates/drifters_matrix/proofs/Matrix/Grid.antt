@@ -3,17 +3,16 @@ use mathlib.Core.Path.{_≡_, refl, sym, ap, _∙_, subst}
 use mathlib.Core.Bool.{Bool, true, false}
 use mathlib.Core.List.{List}
 use mathlib.Core.Logic.{_⊎_, inl, inr, ⊎-elim}
-use Prim.Native.Nat.{ℕ, _+_, _-_, _*_, _/_, _%_, _≤_, _<_}
+use Prim.Native.Nat.{ℕ, _+_, _*_, _/_, _%_, _≤_, _<_}
 use native.Mathlib.Nat.{eq-zero-or-pos, mul-zero, not-suc-le-zero, add-assoc, zero-mul, mul-le-mul-right, mul-add-div-right, mul-add-mod-self-right, mod-eq-of-lt, div-eq-of-lt, add-zero, suc-mul, div-lt-iff-lt-mul, mod-lt, div-add-mod'}
 use native.Mathlib.Numerals.{add-one}
 use native.Mathlib.Omega.{arith}
 use borrow.Author.Tests.{ltb-true, ltb-false}
-use borrow.Rule.Slice.PartMut.{putMid}
 use lib.Dec.{ltb}
 use lib.Ieee.{Float, nan}
-use lib.ListN.{length, getD, take, drop, set, length-take, length-drop}
+use lib.ListN.{length, getD, set}
 use Rattle.drifters_matrix.specs.Matrix.{tab, matrix, at}
-use Rattle.drifters_matrix.proofs.Matrix.Tab.{Filled, filled-none, filled-set, getD-tab, length-tab, tab-is, tab-ext, front, front-part, front-zero, step-done}
+use Rattle.drifters_matrix.proofs.Matrix.Tab.{Filled, filled-none, filled-set, getD-tab, length-tab, tab-is, front, front-zero, step-done}
 
 -- row i of r rows of c lies within r * c
 pub row-in : (i r c : ℕ) → i < r → i * c + c ≤ r * c
@@ -44,21 +43,6 @@ byRow c f n = f (n / c) (n % c)
 
 pub row-next : (i c : ℕ) → (i + 1) * c ≡ i * c + c
 row-next i c = rw add-one (suc-mul i c)
-
--- the part that is row i
-pub part-size : (p c : ℕ) → p + c - p ≡ c
-part-size p c = omega arith
-
--- a step of a loop over the rows that has lent row i of l and got y back
-pub row-step : (f : ℕ → ℕ → Float) (i c : ℕ) (o : List Float) {l y : List Float} → l ≡ front (i * c) (byRow c f) o → y ≡ tab c (f i) →
-    putMid (i * c) (i * c + c - i * c) l y ≡ front ((i + 1) * c) (byRow c f) o
-row-step f i c o {l} {y} e q =
-    rw (part-size (i * c) c, e, q ∙ tab-ext c (f i) (λ j. byRow c f (i * c + j)) (λ j h. rw (div-at i j c h, mod-at i j c h)), row-next i c)
-    (front-part (i * c) c (byRow c f) o)
-
--- the row that is lent
-pub row-length : (p c : ℕ) (l : List Float) → p + c ≤ length l → length (take (p + c - p) (drop p l)) ≡ c
-row-length p c l h = rw part-size (simp (length-take, length-drop) (omega arith))
 
 -- where a loop over the rows begins, and where it ends
 pub rows-none : (f : ℕ → Float) (c : ℕ) (o : List Float) → o ≡ front (0 * c) f o

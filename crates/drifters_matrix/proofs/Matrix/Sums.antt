@@ -12,6 +12,7 @@ use Rattle.drifters_real.specs.Scalar.{_⊕_, _⊗_, plusZero}
 use Rattle.drifters_matrix.specs.Matrix.{tab, at, matrix, transpose, addTerm, sumTerms, mulTranspose}
 use Rattle.drifters_matrix.proofs.Matrix.Tab.{tab-ext, tab-replicate, getD-tab}
 use Rattle.drifters_matrix.proofs.Matrix.Grid.{length-matrix, entry, matrix-is}
+use Rattle.drifters_matrix.proofs.Matrix.RowStart.{RowStart}
 
 module _ (skip : Bool) (f g : ℕ → Float) (k : ℕ) where
   -- a term that is skipped
@@ -53,16 +54,16 @@ module _ (skip : Bool) (a : List Float) (s : ℕ) (b : List Float) where
   pub row-skip : (n k : ℕ) → skip ≡ true → eq (getD a (s + k) nan) plusZero ≡ true → tab n (rowSum skip a s b n k) ≡ tab n (rowSum skip a s b n (k + 1))
   row-skip n k t z = tab-ext n _ _ (λ j h. sym (sum-skip skip _ _ k t z))
 
-  -- l is the row before term k, l′ after it
-  pub row-add : (n k : ℕ) {l l′ : List Float} → length l ≡ n → l ≡ tab n (rowSum skip a s b n k) →
-      l′ ≡ tab (length l) (λ j. getD l j nan ⊕ getD a (s + k) nan ⊗ getD b (k * n + j) nan) →
+  -- l is the row before term k, l′ after it; row k of b starts at t
+  pub row-add : (n k : ℕ) {t : ℕ} {l l′ : List Float} → RowStart k n t → length l ≡ n → l ≡ tab n (rowSum skip a s b n k) →
+      l′ ≡ tab (length l) (λ j. getD l j nan ⊕ getD a (s + k) nan ⊗ getD b (t + j) nan) →
       (skip ≡ false) ⊎ (eq (getD a (s + k) nan) plusZero ≡ false) → l′ ≡ tab n (rowSum skip a s b n (k + 1))
-  row-add n k {l} w q r t =
-      r ∙ ap (λ (m : ℕ). tab m (λ j. getD l j nan ⊕ getD a (s + k) nan ⊗ getD b (k * n + j) nan)) w
+  row-add n k {t} {l} h w q r z =
+      r ∙ (λ i. tab (w i) (λ j. getD l j nan ⊕ getD a (s + k) nan ⊗ getD b (h .start i + j) nan))
       ∙ tab-ext n _ _
-      (λ j h.
-      ap (λ y. y ⊕ getD a (s + k) nan ⊗ getD b (k * n + j) nan) (ap (λ (m : List Float). getD m j nan) q ∙ getD-tab n _ j nan h)
-      ∙ sym (sum-add skip _ _ k t))
+      (λ j p.
+      ap (λ y. y ⊕ getD a (s + k) nan ⊗ getD b (k * n + j) nan) (ap (λ (m : List Float). getD m j nan) q ∙ getD-tab n _ j nan p)
+      ∙ sym (sum-add skip _ _ k z))
 
   pub row-done : (c : ℕ) {n k d : ℕ} {l : List Float} → l ≡ tab n (rowSum skip a s b n k) → n ≡ d → k ≡ c → l ≡ tab d (rowSum skip a s b d c)
   row-done c e p q = e ∙ (λ i. tab (p i) (rowSum skip a s b (p i) (q i)))

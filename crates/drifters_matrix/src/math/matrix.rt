@@ -1,5 +1,6 @@
 // Port of math/matrix.rs, for all dimensions: a matrix is a run of its entries, row by row. shapes.rt has a record for each shape in use;
-// the factorisation is in drifters_cholesky.
+// the factorisation is in drifters_cholesky. The loops of products carry the start of each row along, by addition: they multiply nothing
+// but two entries, and tools/test_row_starts reads them for it.
 ghost use mathlib.Core.Path.{_≡_};
 ghost use Prim.Native.Nat.{_+_, _*_, _≤_};
 ghost use mathlib.Core.Bool.{true};
@@ -11,15 +12,19 @@ ghost use Rattle.drifters_matrix.specs.Matrix.{tab, at, matrix, zeros, t
 use drifters_real::math::real::abs;
 use drifters_real::math::real::is_finite;
 
-// The r by c matrix `m`, transposed into `out`.
+// The r by c matrix `m`, transposed into `out`. Row i of `m` starts at s, row j of `out` at t.
 pub(crate) fn transpose_into(m: &[f64], out: &mut [f64], r: usize, c: usize)
     requires { ⌜ (length (now m) ≡ r * c) × (length (now out) ≡ c * r) ⌝ }
     ensures { λ _. ⌜ now (out .exit) ≡ transpose r c (now (m .entry)) ⌝ }
 {
+    let mut s = 0;
     for i in 0..r {
+        let mut t = 0;
         for j in 0..c {
-            out[j * r + i] = m[i * c + j];
+            out[t + i] = m[s + j];
+            t += r;
         }
+        s += c;
     }
 }
 
@@ -55,23 +60,26 @@ pub(crate) fn add_scaled(row: &mut [f64], x: f64, b: &[f64], s: usize)
     }
 }
 
-// The row a[s..s + c] times `b`, into `row`: the terms of an entry in the order of k, those of a zero in `a` skipped where `skip` is set.
+// The row a[s..s + c] times `b`, into `row`: the terms of an entry in the order of k, those of a zero in `a` skipped where `skip` is set. Row k of
+// `b` starts at t.
 fn product_row(skip: bool, a: &[f64], s: usize, c: usize, b: &[f64], row: &mut [f64])
     requires { ⌜ (s + c ≤ length (now a)) × (c * length (now row) ≤ length (now b)) ⌝ }
     ensures { λ _. ⌜ now (row .exit) ≡ tab (length (now (row .entry))) (λ j. sumTerms skip (λ k. getD (now (a .entry)) (s + k) nan) (λ k. getD (now (b .entry)) (k * length (now (row .entry)) + j) nan) c) ⌝ }
 {
     clear(row);
     let n = row.len();
+    let mut t = 0;
     for k in 0..c {
         let x = a[s + k];
-        if skip && x == 0.0 {
-            continue;
+        if !skip || x != 0.0 {
+            add_scaled(row, x, b, t);
         }
-        add_scaled(row, x, b, k * n);
+        t += n;
     }
 }
 
-// The r by c matrix `a` times the c by d matrix `b`, into `out`. The sums of a row are kept in `row`, so that they stay in registers.
+// The r by c matrix `a` times the c by d matrix `b`, into `out`. The sums of a row are kept in `row`, so that they stay in registers. The row of `a`
+// starts at s, that of `out` at t.
 fn product_into(
     skip: bool,
     a: &[f64],
@@ -85,10 +93,13 @@ fn product_into(
     requires { ⌜ (length (now a) ≡ r * c) × ((length (now b) ≡ c * d) × ((length (now row) ≡ d) × (length (now out) ≡ r * d))) ⌝ }
     ensures { λ _. ⌜ now (out .exit) ≡ matrix r d (λ i j. sumTerms skip (at c (now (a .entry)) i) (λ k. at d (now (b .entry)) k j) c) ⌝ }
 {
-    for i in 0..r {
-        product_row(skip, a, i * c, c, b, row);
-        let t = i * d;
+    let mut s = 0;
+    let mut t = 0;
+    for _ in 0..r {
+        product_row(skip, a, s, c, b, row);
         copy_into(row, &mut out[t..t + d]);
+        s += c;
+        t += d;
     }
 }
 
@@ -127,15 +138,18 @@ pub(crate) fn mul_transpose_into(
     product_into(false, a, t, row, out, r, c, d);
 }
 
-// The r by c matrix `a` times the diagonal matrix of `d`, into `out`, where both are finite: each column times its number.
+// The r by c matrix `a` times the diagonal matrix of `d`, into `out`, where both are finite: each column times its number. The
+// rows of `a` and `out` start at s.
 pub(crate) fn scale_columns_into(a: &[f64], d: &[f64], out: &mut [f64], r: usize, c: usize)
     requires { ⌜ (length (now a) ≡ r * c) × ((length (now d) ≡ c) × ((length (now out) ≡ r * c) × ((allFinite (now a) ≡ true) × (allFinite (now d) ≡ true)))) ⌝ }
     ensures { λ _. ⌜ now (out .exit) ≡ matmul r c c (now (a .entry)) (fromDiagonal c (now (d .entry))) ⌝ }
 {
-    for i in 0..r {
+    let mut s = 0;
+    for _ in 0..r {
         for j in 0..c {
-            out[i * c + j] = 0.0 + a[i * c + j] * d[j];
+            out[s + j] = 0.0 + a[s + j] * d[j];
         }
+        s += c;
     }
 }
 

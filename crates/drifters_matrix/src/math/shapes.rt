@@ -90,6 +90,16 @@ impl Mat1 {
         add_in(&mut data, &rhs.data, 1);
         Mat1 { data }
     }
+
+    pub fn mul_transpose(self, rhs: Mat1) -> Mat1
+        ensures { λ r. ⌜ r .data ≡ mulTranspose 1 1 1 (self .data) (rhs .data) ⌝ }
+    {
+        let mut t = [0.0; 1];
+        let mut row = [0.0; 1];
+        let mut data = [0.0; 1];
+        mul_transpose_into(&self.data, &rhs.data, &mut t, &mut row, &mut data, 1, 1, 1);
+        Mat1 { data }
+    }
 }
 
 impl Mat3 {

@@ -1,2 +1,0 @@
--- The laws that the proof of the inflation rests on.
-pub mod Inflation
