@@ -96,7 +96,7 @@ pub fn sqrt(x: f64) -> f64
 }
 
 // The number h * 2^32 + l.
-#[derive(Drop)]
+#[derive(Clone, Copy)]
 struct Wide {
     h: u64,
     l: u64,
@@ -164,7 +164,7 @@ fn over_1024(s: Wide) -> u64
 
 // The sums of the terms that are added and of those that are taken off, in units of 2^-54: sp and
 // sn of the sine over the angle, cp and cn of the cosine.
-#[derive(Drop)]
+#[derive(Clone, Copy)]
 struct Sums {
     sp: u64,
     sn: u64,
@@ -220,7 +220,7 @@ fn difference(p: u64, n: u64) -> f64
 }
 
 // A sine and a cosine: the pair that the Rust returns.
-#[derive(Drop)]
+#[derive(Clone, Copy)]
 pub struct SinCos {
     pub sin: f64,
     pub cos: f64,
