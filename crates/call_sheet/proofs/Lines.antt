@@ -45,7 +45,7 @@ lines_short i run (c ∷ cs) =
 pub record Taken (k : ℕ) (ks bits : List ℕ) (cs : List SheetCall) : Type 0 where
   pub kind : Kind
   pub rest : List SheetCall
-  pub is_kind_lem : kind_of k ≡ some kind
+  pub is_kind : kind_of k ≡ some kind
   pub enough : call_length kind ≤ length bits
   pub is : sheet_call kind (take (call_length kind) bits) ∷ rest ≡ cs
   pub after : calls_in ks (drop (call_length kind) bits) ≡ some rest
@@ -57,7 +57,7 @@ taken k ks bits cs e = by_kind (kind_of k) refl e
     by_rest : (kind : Kind) (o : Option (List SheetCall)) → kind_of k ≡ some kind → call_length kind ≤ length bits
         → calls_in ks (drop (call_length kind) bits) ≡ o → with_call (sheet_call kind (take (call_length kind) bits)) o ≡ some cs → Taken k ks bits cs
     by_rest kind none f l r e = no_some e
-    by_rest kind (some rest) f l r e = record { kind = kind; rest = rest; is_kind_lem = f; enough = l; is = some-injective _ cs e; after = r }
+    by_rest kind (some rest) f l r e = record { kind = kind; rest = rest; is_kind = f; enough = l; is = some-injective _ cs e; after = r }
 
     by_length : (kind : Kind) (b : Bool) → kind_of k ≡ some kind → leb (call_length kind) (length bits) ≡ b
         → cond b (with_call (sheet_call kind (take (call_length kind) bits)) (calls_in ks (drop (call_length kind) bits))) none ≡ some cs → Taken k ks bits cs

@@ -66,7 +66,7 @@ pub record Next (k i : ℕ) (s : List ℕ) (place : ℕ) (cs : List SheetCall) :
   pub kind : Kind
   pub rest : List SheetCall
   pub offset : offset_at s i ≡ place
-  pub is_kind_lem : kind_of (kind_at s i) ≡ some kind
+  pub is_kind : kind_of (kind_at s i) ≡ some kind
   pub is : sheet_call kind (u64s_at (call_length kind) s place) ∷ rest ≡ cs
   pub found : calls_at k (i + 1) s (place + 8 * call_length kind) ≡ some rest
 
@@ -82,7 +82,7 @@ next k i s place cs e = by_offset (eqb (offset_at s i) place) refl e
       kind = kind;
       rest = rest;
       offset = p;
-      is_kind_lem = f;
+      is_kind = f;
       is = some-injective _ cs e;
       found = r;
     }
@@ -205,7 +205,7 @@ calls_found zero i s place cs e = go (eqb place (length s)) refl e
 calls_found (suc k) i s place cs e =
     let n = next k i s place cs e in
     subst (λ (l : List SheetCall). Calls (suc k) i s place l) n.is
-    (one_found k i s place n.kind n.rest (number_of_kind (kind_at s i) n.is_kind_lem) (calls_found k (i + 1) s (place + 8 * call_length n.kind) n.rest n.found))
+    (one_found k i s place n.kind n.rest (number_of_kind (kind_at s i) n.is_kind) (calls_found k (i + 1) s (place + 8 * call_length n.kind) n.rest n.found))
 
 -- ---- the sheet
 

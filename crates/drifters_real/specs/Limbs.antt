@@ -34,8 +34,8 @@ pub record IsWide (w : Wide) (v : ℕ) : Type 0 where
 pub record AreSums (x : ℕ) (s : Sums) : Type 0 where
   pub sin_plus : s.sp ≡ sinc_plus x / 2 ^ 10
   pub sin_minus : s.sn ≡ sinc_minus x / 2 ^ 10
-  pub cos_plus_lem : s.cp ≡ cos_plus x / 2 ^ 10
-  pub cos_minus_lem : s.cn ≡ cos_minus x / 2 ^ 10
+  pub cos_plus : s.cp ≡ cos_plus x / 2 ^ 10
+  pub cos_minus : s.cn ≡ cos_minus x / 2 ^ 10
 
 -- the largest square, in units of 2 ^ -64, that the terms are summed for: that of `angle_limit`
 abbrev pub square_limit : ℕ

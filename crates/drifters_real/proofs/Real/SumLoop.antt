@@ -122,8 +122,8 @@ pub record SumsSoFar (x : ℕ) (w sp sn cp cn : Wide) (i : ℕ) : Type 0 where
   pub term_is : IsWide w (term x (2 * i))
   pub sin_plus : PartialSum i sp (sum_of (sp_term x) i)
   pub sin_minus : PartialSum i sn (sum_of (sn_term x) i)
-  pub cos_plus_lem : PartialSum i cp (sum_of (cp_term x) i)
-  pub cos_minus_lem : PartialSum i cn (sum_of (cn_term x) i)
+  pub cos_plus : PartialSum i cp (sum_of (cp_term x) i)
+  pub cos_minus : PartialSum i cn (sum_of (cn_term x) i)
 
 -- a term's high part
 pub high_small : (x k : ℕ) (w : Wide) → x ≤ square_limit → k < 34 → IsWide w (term x k) → w.h ≤ 2 ^ 38
@@ -161,7 +161,7 @@ pub at_start : (x : ℕ) → SumsSoFar x (record { h = 2 ^ 32; l = 0 }) (record 
 unfolding sum_of term
 at_start x =
     let none : PartialSum 0 (record { h = 0; l = 0 }) 0 = record { is = refl; high = zero-le; low = zero-le } in
-    record { count = zero-le; term_is = record { is = refl; digits = lit< tt }; sin_plus = none; sin_minus = none; cos_plus_lem = none; cos_minus_lem = none }
+    record { count = zero-le; term_is = record { is = refl; digits = lit< tt }; sin_plus = none; sin_minus = none; cos_plus = none; cos_minus = none }
 
 -- s stands for the whole sum v, and is small enough for `over_1024`
 pub record Summed (s : Wide) (v : ℕ) : Type 0 where
@@ -172,8 +172,8 @@ pub record Summed (s : Wide) (v : ℕ) : Type 0 where
 pub record AllSummed (x : ℕ) (sp sn cp cn : Wide) : Type 0 where
   pub sin_plus : Summed sp (sinc_plus x)
   pub sin_minus : Summed sn (sinc_minus x)
-  pub cos_plus_lem : Summed cp (cos_plus x)
-  pub cos_minus_lem : Summed cn (cos_minus x)
+  pub cos_plus : Summed cp (cos_plus x)
+  pub cos_minus : Summed cn (cos_minus x)
 
 summed : (i : ℕ) (s : Wide) (u v : ℕ) → i ≤ 16 → PartialSum i s u → u ≡ v → v < 3 * 2 ^ 72 → Summed s v
 summed i s u v I p e h = record { is = p.is ∙ e; high = high s.h s.l v (p.is ∙ e) h; low = low i s.l I p.low }
@@ -195,29 +195,29 @@ module _ (x : ℕ) (w : Wide) (i : ℕ) (count : i ≤ 16) (w-is : IsWide w (ter
       none : (h l : ℕ) → h + l ≡ 0 → h * 2 ^ 32 + l ≡ 0
       none h l z = omega arith
 
-  sinc_plus_lem : sum_of (sp_term x) i ≡ sinc_plus x
+  sinc_plus : sum_of (sp_term x) i ≡ sinc_plus x
   unfolding sinc_plus
-  sinc_plus_lem = whole (sp_term x) (λ j k e. later_even x i j e k)
+  sinc_plus = whole (sp_term x) (λ j k e. later_even x i j e k)
 
-  sinc_minus_lem : sum_of (sn_term x) i ≡ sinc_minus x
+  sinc_minus : sum_of (sn_term x) i ≡ sinc_minus x
   unfolding sinc_minus
-  sinc_minus_lem = whole (sn_term x) (λ j k e. later_odd x i j e k)
+  sinc_minus = whole (sn_term x) (λ j k e. later_odd x i j e k)
 
-  cos_plus_lem : sum_of (cp_term x) i ≡ cos_plus x
+  cos_plus : sum_of (cp_term x) i ≡ cos_plus x
   unfolding cos_plus
-  cos_plus_lem = whole (cp_term x) (λ j k e. ap (λ (y : ℕ). (4 * j + 1) * y) (later_even x i j e k) ∙ mul-zero (4 * j + 1))
+  cos_plus = whole (cp_term x) (λ j k e. ap (λ (y : ℕ). (4 * j + 1) * y) (later_even x i j e k) ∙ mul-zero (4 * j + 1))
 
-  cos_minus_lem : sum_of (cn_term x) i ≡ cos_minus x
+  cos_minus : sum_of (cn_term x) i ≡ cos_minus x
   unfolding cos_minus
-  cos_minus_lem = whole (cn_term x) (λ j k e. ap (λ (y : ℕ). (4 * j + 3) * y) (later_odd x i j e k) ∙ mul-zero (4 * j + 3))
+  cos_minus = whole (cn_term x) (λ j k e. ap (λ (y : ℕ). (4 * j + 3) * y) (later_odd x i j e k) ∙ mul-zero (4 * j + 3))
 
 pub at_end : (x : ℕ) (w sp sn cp cn : Wide) (i : ℕ) → x ≤ square_limit → SumsSoFar x w sp sn cp cn i → (16 ≤ i) ⊎ (w.h + w.l ≡ 0) → AllSummed x sp sn cp cn
 unfolding sinc_plus sinc_minus cos_plus cos_minus sum_of term
 at_end x w sp sn cp cn i X g left = record {
-  sin_plus = summed i sp (sum_of (sp_term x) i) (sinc_plus x) g.count g.sin_plus (sinc_plus_lem x w i g.count g.term_is left) (lt_of_le_of_lt (sinc_plus_mono x square_limit X) (lit< tt));
-  sin_minus = summed i sn (sum_of (sn_term x) i) (sinc_minus x) g.count g.sin_minus (sinc_minus_lem x w i g.count g.term_is left) (lt_of_le_of_lt (sinc_minus_mono x square_limit X) (lit< tt));
-  cos_plus_lem = summed i cp (sum_of (cp_term x) i) (cos_plus x) g.count g.cos_plus_lem (cos_plus_lem x w i g.count g.term_is left) (lt_of_le_of_lt (cos_plus_mono x square_limit X) (lit< tt));
-  cos_minus_lem = summed i cn (sum_of (cn_term x) i) (cos_minus x) g.count g.cos_minus_lem (cos_minus_lem x w i g.count g.term_is left) (lt_of_le_of_lt (cos_minus_mono x square_limit X) (lit< tt));
+  sin_plus = summed i sp (sum_of (sp_term x) i) (sinc_plus x) g.count g.sin_plus (sinc_plus x w i g.count g.term_is left) (lt_of_le_of_lt (sinc_plus_mono x square_limit X) (lit< tt));
+  sin_minus = summed i sn (sum_of (sn_term x) i) (sinc_minus x) g.count g.sin_minus (sinc_minus x w i g.count g.term_is left) (lt_of_le_of_lt (sinc_minus_mono x square_limit X) (lit< tt));
+  cos_plus = summed i cp (sum_of (cp_term x) i) (cos_plus x) g.count g.cos_plus (cos_plus x w i g.count g.term_is left) (lt_of_le_of_lt (cos_plus_mono x square_limit X) (lit< tt));
+  cos_minus = summed i cn (sum_of (cn_term x) i) (cos_minus x) g.count g.cos_minus (cos_minus x w i g.count g.term_is left) (lt_of_le_of_lt (cos_minus_mono x square_limit X) (lit< tt));
 }
 
 -- ---- the next terms, from what `next_term` gives

@@ -78,13 +78,13 @@ next-within : {run₀ run : List Float} {kinds numbers text₀ text : List ℕ} 
     → i < length kinds → kind_of (get_or kinds i 0) ≡ some kind → at + call_length kind ≤ length numbers
 next-within {numbers = numbers} {at = at} {kind = kind} m h e =
     let next = next-left m h in
-    let same : call_length next.kind ≡ call_length kind = ap call_length (some-injective _ _ (sym next.is_kind_lem ∙ e)) in
+    let same : call_length next.kind ≡ call_length kind = ap call_length (some-injective _ _ (sym next.is_kind ∙ e)) in
     omega (arith, same, next.enough, length-drop at numbers, m.there)
 
 -- what a turn of the loop does: the call at place i, and its line
 record Turn (kinds numbers : List ℕ) (run : List Float) (text : List ℕ) (at len i : ℕ) (kind : Kind) (n : ℕ) (answer : Answer)
     (run' : List Float) (text' : List ℕ) (len' : ℕ) : Type 0 where
-  is_kind_lem : kind_of (get_or kinds i 0) ≡ some kind
+  is_kind : kind_of (get_or kinds i 0) ≡ some kind
   is-length : n ≡ call_length kind
   is-answer : answer ≡ (outcome_on run (call_of (sheet_call kind (take (at + n - at) (drop at numbers))))).answer
   is-run : run' ≡ (outcome_on run (call_of (sheet_call kind (take (at + n - at) (drop at numbers))))).run
@@ -101,7 +101,7 @@ one-made : {run₀ run run' : List Float} {kinds numbers text₀ text text' : Li
 unfolding lines_text entries_from
 one-made {run₀} {run} {run'} {kinds} {numbers} {text₀} {text} {text'} {at} {len} {len'} {i} {n} {kind} {answer} m h t =
     let next = next-left m h in
-    let same : kind ≡ next.kind = some-injective _ _ (sym t.is_kind_lem ∙ next.is_kind_lem) in
+    let same : kind ≡ next.kind = some-injective _ _ (sym t.is_kind ∙ next.is_kind) in
     let count : n ≡ call_length next.kind = t.is-length ∙ ap call_length same in
     let part : at + n - at ≡ call_length next.kind = omega arith in
     let called = sheet_call next.kind (take (call_length next.kind) (drop at numbers)) in
@@ -127,10 +127,10 @@ one-made {run₀} {run} {run'} {kinds} {numbers} {text₀} {text} {text'} {at} {
     }
 
 -- the kind of the call
-is_kind_lem : (c : tie.After-kind invariant-loop decreases-loop) →
+is_kind : (c : tie.After-kind invariant-loop decreases-loop) →
     let l = c.before.before.before.before.before in
     kind_of (get_or l.before.before.before.before.before.args.kinds.now l.loop.i 0) ≡ some c.kind.given.0.0
-is_kind_lem c = sym c.before.before.kind-of.ensures ∙ ap found c.kind.given.1
+is_kind c = sym c.before.before.kind-of.ensures ∙ ap found c.kind.given.1
 
 -- the numbers of a call lie within those of all
 inside : (c : tie.After-call-length invariant-loop decreases-loop) →
@@ -139,14 +139,14 @@ inside : (c : tie.After-call-length invariant-loop decreases-loop) →
 inside c =
     let kind = c.before.before in
     let test = kind.before.before.before.before in
-    omega (arith, c.Call-length.ensures, next-within test.before.loop.invariant test.loop-test.true (is_kind_lem kind))
+    omega (arith, c.Call-length.ensures, next-within test.before.loop.invariant test.loop-test.true (is_kind kind))
 
 -- no number is of no kind
 returns : tie.Need-returns invariant-loop decreases-loop
 returns c =
     let kind = c.before.before in
     let test = kind.before.before in
-    no_some (sym (ap found c.enum_told.given.1) ∙ kind.kind-of.ensures ∙ (next-left test.before.loop.invariant test.loop-test.true).is_kind_lem)
+    no_some (sym (ap found c.enum_told.given.1) ∙ kind.kind-of.ensures ∙ (next-left test.before.loop.invariant test.loop-test.true).is_kind)
 
 -- a call is made with as many bits as its kind asks for
 run-call-requires : tie.Need-run-call-requires invariant-loop decreases-loop
@@ -167,7 +167,7 @@ loop-again c =
     let test = kind.before.before.before.before in
     one-made test.before.loop.invariant test.loop-test.true
     (record {
-      is_kind_lem = is_kind_lem kind;
+      is_kind = is_kind kind;
       is-length = count.Call-length.ensures;
       is-answer = made.run_call.ensures.0;
       is-run = made.run_call.ensures.1;

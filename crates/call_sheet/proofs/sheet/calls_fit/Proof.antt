@@ -24,7 +24,7 @@ returns c =
     let kind = c.before.before in
     let turn = kind.before.before in
     no_calls _ _ _ _ turn.loop-test.true
-    (λ cs next. no_some (sym (ap found c.enum_told.given.1) ∙ kind.kind-of.ensures ∙ ap kind_of kind.before.u32-at.ensures ∙ next.is_kind_lem))
+    (λ cs next. no_some (sym (ap found c.enum_told.given.1) ∙ kind.kind-of.ensures ∙ ap kind_of kind.before.u32-at.ensures ∙ next.is_kind))
     ∙ sym turn.before.loop.invariant.3
 
 -- a body that is not where the one before it ends

@@ -94,7 +94,7 @@ add-add-times c = omega (arith, (at c.before).loop-test.true)
 add-times-requires-2 : tie.Need-add-times-requires-2 invariant-loop decreases-loop
 add-times-requires-2 c κs =
     let a = at c.before in
-    let b = below_48 (i a) a.before.loop.cp _ a.before.loop.inv.count a.before.loop.inv.cos_plus_lem in
+    let b = below_48 (i a) a.before.loop.cp _ a.before.loop.inv.count a.before.loop.inv.cos_plus in
     (b.0, b.1, weight a 1 (lit≤ tt), w-high a, a.before.loop.inv.term_is.digits)
 
 add-times-requires-3 : tie.Need-add-times-requires-3 invariant-loop decreases-loop
@@ -111,7 +111,7 @@ add-times-requires-4 : tie.Need-add-times-requires-4 invariant-loop decreases-lo
 add-times-requires-4 c κs =
     let s = c.before.before.before in
     let a = at s in
-    let b = below_48 (i a) a.before.loop.cn _ a.before.loop.inv.count a.before.loop.inv.cos_minus_lem in
+    let b = below_48 (i a) a.before.loop.cn _ a.before.loop.inv.count a.before.loop.inv.cos_minus in
     (b.0, b.1, weight a 3 (lit≤ tt), odd-high s, (odd_is s).digits)
 
 add-next-term-3 : tie.Need-overflow-add-next-term-3 invariant-loop decreases-loop
@@ -148,8 +148,8 @@ loop-again c =
       term_is = even_term x (i a) s.next-term.result c.next-term2.result (odd_is s) c.next-term2.ensures;
       sin_plus = added (sp_term x) (i a) 1 (term x (2 * i a)) L.sp L.w c.before.before.before.before.add_times.result g.sin_plus g.term_is (w-high a) (lit≤ tt) (one-mul (term x (2 * i a))) c.before.before.before.before.add_times.ensures;
       sin_minus = added (sn_term x) (i a) 1 (term x (2 * i a + 1)) L.sn s.next-term.result c.before.before.add-times3.result g.sin_minus (odd_is s) (odd-high s) (lit≤ tt) (one-mul (term x (2 * i a + 1))) c.before.before.add-times3.ensures;
-      cos_plus_lem = added (cp_term x) (i a) (4 * i a + 1) (term x (2 * i a)) L.cp L.w c.before.before.before.add-times2.result g.cos_plus_lem g.term_is (w-high a) (weight a 1 (lit≤ tt)) refl c.before.before.before.add-times2.ensures;
-      cos_minus_lem = added (cn_term x) (i a) (4 * i a + 3) (term x (2 * i a + 1)) L.cn s.next-term.result c.before.add-times4.result g.cos_minus_lem (odd_is s) (odd-high s) (weight a 3 (lit≤ tt)) refl c.before.add-times4.ensures;
+      cos_plus = added (cp_term x) (i a) (4 * i a + 1) (term x (2 * i a)) L.cp L.w c.before.before.before.add-times2.result g.cos_plus g.term_is (w-high a) (weight a 1 (lit≤ tt)) refl c.before.before.before.add-times2.ensures;
+      cos_minus = added (cn_term x) (i a) (4 * i a + 3) (term x (2 * i a + 1)) L.cn s.next-term.result c.before.add-times4.result g.cos_minus (odd_is s) (odd-high s) (weight a 3 (lit≤ tt)) refl c.before.add-times4.ensures;
     }
 
 -- ---- after the loop
@@ -165,10 +165,10 @@ over-1024-requires-2 : tie.Need-over-1024-requires-2 invariant-loop decreases-lo
 over-1024-requires-2 c κs = ((all c.before).sin_minus.high, (all c.before).sin_minus.low)
 
 over-1024-requires-3 : tie.Need-over-1024-requires-3 invariant-loop decreases-loop
-over-1024-requires-3 c κs = ((all c.before.before).cos_plus_lem.high, (all c.before.before).cos_plus_lem.low)
+over-1024-requires-3 c κs = ((all c.before.before).cos_plus.high, (all c.before.before).cos_plus.low)
 
 over-1024-requires-4 : tie.Need-over-1024-requires-4 invariant-loop decreases-loop
-over-1024-requires-4 c κs = ((all c.before.before.before).cos_minus_lem.high, (all c.before.before.before).cos_minus_lem.low)
+over-1024-requires-4 c κs = ((all c.before.before.before).cos_minus.high, (all c.before.before.before).cos_minus.low)
 
 returns : tie.Need-returns invariant-loop decreases-loop
 returns c =
@@ -177,8 +177,8 @@ returns c =
     record {
       sin_plus = c.before.before.before.over-1024.ensures ∙ ap over s.sin_plus.is;
       sin_minus = c.before.before.over-10242.ensures ∙ ap over s.sin_minus.is;
-      cos_plus_lem = c.before.over-10243.ensures ∙ ap over s.cos_plus_lem.is;
-      cos_minus_lem = c.over-10244.ensures ∙ ap over s.cos_minus_lem.is;
+      cos_plus = c.before.over-10243.ensures ∙ ap over s.cos_plus.is;
+      cos_minus = c.over-10244.ensures ∙ ap over s.cos_minus.is;
     }
 
 pub power-sums-spec : {M : Type 1} → statement M

@@ -55,7 +55,7 @@ returns c =
     let X = q.squared.result.h * 2 ^ 32 + q.squared.result.l in
     both x _ _
     (ap (mul binary64 x) (d.difference.ensures ∙ sinc_is X s.power-sums.result.sp s.power-sums.result.sn s.power-sums.ensures.sin_plus s.power-sums.ensures.sin_minus ∙ ap sinc_of_square (x-is q)) ∙ sym (sin_in x (within th)))
-    (c.difference2.ensures ∙ cosine_is X s.power-sums.result.cp s.power-sums.result.cn s.power-sums.ensures.cos_plus_lem s.power-sums.ensures.cos_minus_lem ∙ ap cos_of_square (x-is q) ∙ sym (cos_in x (within th)))
+    (c.difference2.ensures ∙ cosine_is X s.power-sums.result.cp s.power-sums.result.cn s.power-sums.ensures.cos_plus s.power-sums.ensures.cos_minus ∙ ap cos_of_square (x-is q) ∙ sym (cos_in x (within th)))
 
 out : (c : tie.Joined1) → in_range c.before.args.theta ≡ false
 out c = ⊎_elim (λ w. out_high c.before.args.theta w.1.left) (λ w. out_low c.before.args.theta w.left) c.if1.branch
