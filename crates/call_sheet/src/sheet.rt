@@ -24,7 +24,7 @@ pub const MOST_NUMBERS: usize = 8192;
 pub const SHEET_REFUSAL: u32 = 6;
 
 // How many places of a lent run were filled, or the number of the refusal.
-#[derive(Drop)]
+#[derive(Clone, Copy)]
 pub enum Filled {
     Length(usize),
     Refused(u32),

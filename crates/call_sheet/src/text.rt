@@ -10,7 +10,7 @@ use drifters_kind::kind::{Kind, form_of};
 use little_endian::bits::bits_of;
 
 // Text of at most 16 bytes: the first `length` of them; the others are 0.
-#[derive(Drop)]
+#[derive(Clone, Copy)]
 pub struct Text {
     pub bytes: [u8; 16],
     pub length: usize,

@@ -8,7 +8,7 @@ use drifters_matrix::math::shapes::Mat6;
 use drifters_real::math::real::max;
 
 // An element of se(3) after halvings, and their number.
-#[derive(Drop)]
+#[derive(Clone, Copy)]
 struct Halved {
     w: Se3Tangent,
     halvings: usize,

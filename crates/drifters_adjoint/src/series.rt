@@ -24,7 +24,7 @@ fn matrix_series(m: Mat6) -> Mat6
 
 // A matrix [[P, 0], [Q, P]] of 3 by 3 blocks, held by its first three columns, P and then Q. The matrix of a bracket is of this form, and so are
 // the terms of its series: half the numbers, and no products with the zero block.
-#[derive(Drop)]
+#[derive(Clone, Copy)]
 struct Blocks {
     data: [f64; 18],
 }

@@ -23,7 +23,7 @@ const DIRECTION_LENGTH: usize = READING_LENGTH + NORTH_NOISE_LENGTH;
 
 // What an update by several compasses answers: the index of the reading that was applied, its normalised innovation squared, and how many were
 // tried; how many were tried where none was accepted; or the number of a refusal.
-#[derive(Drop)]
+#[derive(Clone, Copy)]
 pub enum CompassesAnswer {
     Chosen(usize, f64, usize),
     None(usize),
@@ -32,7 +32,7 @@ pub enum CompassesAnswer {
 
 // The best of the readings tried so far: its index and its normalised innovation squared. The filter that it leaves stands beside it, since an
 // enum of the language holds no array.
-#[derive(Drop)]
+#[derive(Clone, Copy)]
 pub enum Best {
     None,
     Reading(usize, f64),

@@ -19,7 +19,7 @@ use drifters_symmetry::lift::{Input, lift};
 
 // The power spectral densities of the process noise, per axis. The first two are white noise of the sensors, which the input brings in: their
 // unit is the square of what is measured, per hertz. The others are random walks of states: the square of the state's unit, per second.
-#[derive(Drop)]
+#[derive(Clone, Copy)]
 pub struct ProcessNoise {
     // (rad/s)²/Hz, that is rad²/s: drives the attitude.
     pub gyro: Vec3,

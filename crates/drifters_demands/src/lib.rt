@@ -1,1 +1,2 @@
 // Theorems only: the half turn, the three demands and the starred readings. They are about the definitions of the crates below; no code stands on them.
+#![tactic(auto)]

@@ -35,7 +35,7 @@ pub const START_LENGTH: usize = ALPHA;
 
 // What is done to a filter: a propagation, an update by one or by three measured numbers, or nothing, where its estimate is asked or the call is
 // refused by a check of its kind's own.
-#[derive(Drop)]
+#[derive(Clone, Copy)]
 pub enum Action {
     Propagate,
     Update1,
@@ -46,7 +46,7 @@ pub enum Action {
 
 // What a call asks of a filter. An enum of the language holds no array, so what is measured, and where its noise begins in the call's numbers,
 // stand beside it; they count in an update by three numbers only.
-#[derive(Drop)]
+#[derive(Clone, Copy)]
 pub struct Asked {
     pub action: Action,
     pub measurement: Measurement3,

@@ -38,7 +38,7 @@ pub const NULL_REFUSAL: u32 = 7;
 const TURN_LIMIT: f64 = 8.0;
 
 // The equivariant filter: the observer's state, the covariance, gravity, and the share of inflation along the innovation.
-#[derive(Drop)]
+#[derive(Clone, Copy)]
 pub struct EqFilter {
     pub x: Symmetry,
     pub sigma: Mat21,
@@ -47,7 +47,7 @@ pub struct EqFilter {
 }
 
 // What a call answers: the normalised innovation squared of an accepted update, that another call is done, or the number of a refusal.
-#[derive(Drop)]
+#[derive(Clone, Copy)]
 pub enum Answer {
     Nis(f64),
     Fine,
@@ -55,14 +55,14 @@ pub enum Answer {
 }
 
 // An answer with the filter beside it.
-#[derive(Drop)]
+#[derive(Clone, Copy)]
 pub struct Answered {
     pub answer: Answer,
     pub filter: EqFilter,
 }
 
 // What an update of three numbers measures: its output matrix and its innovation.
-#[derive(Drop)]
+#[derive(Clone, Copy)]
 pub struct Measurement3 {
     pub output: Mat3x21,
     pub innovation: Vec3,
@@ -70,7 +70,7 @@ pub struct Measurement3 {
 
 // What an update by a direction measures, where it measures any: a vector of norm 0 has no direction. An enum of the language holds no array, so
 // whether there is a measurement stands beside it; where there is none it is all zeros.
-#[derive(Drop)]
+#[derive(Clone, Copy)]
 pub struct MeasuredDirection {
     pub defined: bool,
     pub measurement: Measurement3,

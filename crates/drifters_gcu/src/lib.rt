@@ -1,2 +1,3 @@
 // Port of drifters-eqf's gcu.rs: inflation of the innovation covariance.
+#![tactic(auto)]
 pub mod gcu;

@@ -3,7 +3,7 @@ ghost use Rattle.std.specs.Prelude.{◌≡◌};
 ghost use Rattle.drifters_kind.specs.Kind.{call_length, written_length, form_of, kind_of, found};
 
 // The kinds that a sheet or a log may hold, in the order of their numbers.
-#[derive(Drop)]
+#[derive(Clone, Copy)]
 pub enum Kind {
     Propagate,
     Position,
@@ -15,7 +15,7 @@ pub enum Kind {
 }
 
 // The number of a kind, how many numbers a call of it has, and how many it writes beside the filter.
-#[derive(Drop)]
+#[derive(Clone, Copy)]
 pub struct Form {
     pub number: u32,
     pub numbers: usize,
@@ -23,7 +23,7 @@ pub struct Form {
 }
 
 // The kind of a number, or that no kind has it.
-#[derive(Drop)]
+#[derive(Clone, Copy)]
 pub enum FoundKind {
     Known(Kind),
     Unknown,

@@ -1,2 +1,3 @@
 // Port of drifters-eqf's lie.rs but for `integrated_adjoint`: the Lie groups below the symmetry group.
+#![tactic(auto)]
 pub mod lie;

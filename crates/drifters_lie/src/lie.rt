@@ -9,7 +9,7 @@ use drifters_quat::math::quat::Quat;
 use drifters_real::math::real::{sin_cos, sqrt};
 
 // A 9-vector of se₂(3), ordered (omega, nu, rho).
-#[derive(Drop)]
+#[derive(Clone, Copy)]
 pub struct Se23Tangent {
     pub omega: Vec3,
     pub nu: Vec3,
@@ -59,7 +59,7 @@ impl Se23Tangent {
 }
 
 // A 6-vector of se(3), ordered (omega, nu).
-#[derive(Drop)]
+#[derive(Clone, Copy)]
 pub struct Se3Tangent {
     pub omega: Vec3,
     pub nu: Vec3,
@@ -132,7 +132,7 @@ impl Se3Tangent {
 }
 
 // An element of SE₂(3): an extended pose.
-#[derive(Drop)]
+#[derive(Clone, Copy)]
 pub struct Se23 {
     pub rotation: Mat3,
     pub velocity: Vec3,
@@ -220,7 +220,7 @@ impl Se23 {
 }
 
 // An element of SE(3).
-#[derive(Drop)]
+#[derive(Clone, Copy)]
 pub struct Se3 {
     pub rotation: Mat3,
     pub translation: Vec3,
@@ -275,7 +275,7 @@ impl Se3 {
 const SMALL_ANGLE_SQ: f64 = 1.0e-4;
 
 // The factors of the skew matrix and of its square in the left Jacobian.
-#[derive(Drop)]
+#[derive(Clone, Copy)]
 struct Factors {
     a: f64,
     b: f64,

@@ -29,7 +29,7 @@ pub const MAG: usize = LEVER + 3;
 
 // An element of the symmetry group: C acts on the extended pose, gamma is the bias part, delta the lever arm's, E the
 // magnetometer calibration's.
-#[derive(Drop)]
+#[derive(Clone, Copy)]
 pub struct Symmetry {
     pub c: Se23,
     pub gamma: Se3Tangent,
@@ -130,7 +130,7 @@ impl Symmetry {
 }
 
 // A tangent vector of the symmetry group at the identity: the 21 coordinates, in their order.
-#[derive(Drop)]
+#[derive(Clone, Copy)]
 pub struct Algebra {
     pub c: Se23Tangent,
     pub gamma: Se3Tangent,
@@ -233,7 +233,7 @@ fn vec3_at(v: &[f64; 21], start: usize) -> Vec3
 }
 
 // A point of the state manifold: extended pose, biases of the gyroscope and the accelerometer, lever arm, magnetometer calibration.
-#[derive(Drop)]
+#[derive(Clone, Copy)]
 pub struct State {
     pub pose: Se23,
     pub bias: Se3Tangent,

@@ -7,7 +7,7 @@ use drifters_core::math::vec3::{Vec3, mul_vec3};
 use drifters_lie::lie::Se23Tangent;
 
 // The measurements of the gyroscope and the accelerometer, in the body frame.
-#[derive(Drop)]
+#[derive(Clone, Copy)]
 pub struct Input {
     pub omega: Vec3,
     pub accel: Vec3,

@@ -12,7 +12,7 @@ const NIS: u64 = 256;
 // What the runs that a call may write hold before it: a refusal leaves it there.
 pub(crate) const UNTOUCHED: f64 = 1.5;
 
-#[derive(Drop)]
+#[derive(Clone, Copy)]
 pub struct CallDigest {
     pub(crate) answer: Answer,
     // The digest of the run lent for a state; by several compasses, which was chosen and how many were tried.

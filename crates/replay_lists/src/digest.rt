@@ -13,7 +13,7 @@ const A: u64 = 1_103_515_245;
 const B: u64 = 1_566_083_941;
 
 // Both polynomials so far.
-#[derive(Drop)]
+#[derive(Clone, Copy)]
 struct Sums {
     a: u32,
     b: u32,

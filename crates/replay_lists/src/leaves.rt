@@ -12,7 +12,7 @@ use little_endian::bytes::u64s_at;
 use sheet_file::read_file;
 
 // The functions, each of at most six numbers, with at most 36 numbers as its result.
-#[derive(Drop)]
+#[derive(Clone, Copy)]
 enum Leaf {
     IntegratedAdjoint,
     MulTranspose,

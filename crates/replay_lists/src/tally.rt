@@ -4,7 +4,7 @@ use drifters_eqf::filter::Answer;
 use libc::STDOUT_FILENO;
 use std::num::wrapping_add_u64;
 
-#[derive(Drop)]
+#[derive(Clone, Copy)]
 pub struct Tally {
     calls: u64,
     fine: u64,

@@ -94,13 +94,13 @@ fn back_in(l: &[f64], x: &mut [f64], n: usize, c: usize)
 }
 
 // The Cholesky factorisation A = L Lᵀ of a 1 by 1 matrix.
-#[derive(Drop)]
+#[derive(Clone, Copy)]
 pub struct Cholesky1 {
     pub lower: Mat1,
 }
 
 // What the factorisation answers: the factor, or that the matrix is not positive definite, and a factor of zeros.
-#[derive(Drop)]
+#[derive(Clone, Copy)]
 pub struct Factored1 {
     pub definite: bool,
     pub factor: Cholesky1,
@@ -141,13 +141,13 @@ impl Cholesky1 {
 }
 
 // The Cholesky factorisation A = L Lᵀ of a 3 by 3 matrix.
-#[derive(Drop)]
+#[derive(Clone, Copy)]
 pub struct Cholesky3 {
     pub lower: Mat3,
 }
 
 // What the factorisation answers: the factor, or that the matrix is not positive definite, and a factor of zeros.
-#[derive(Drop)]
+#[derive(Clone, Copy)]
 pub struct Factored3 {
     pub definite: bool,
     pub factor: Cholesky3,

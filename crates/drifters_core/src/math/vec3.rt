@@ -6,7 +6,7 @@ use drifters_matrix::math::matrix::larger;
 use drifters_matrix::math::shapes::{Mat3, Vector3};
 use drifters_real::math::real::{abs, is_finite, sqrt};
 
-#[derive(Drop)]
+#[derive(Clone, Copy)]
 pub struct Vec3 {
     pub x: f64,
     pub y: f64,
@@ -14,7 +14,7 @@ pub struct Vec3 {
 }
 
 // A vector over its norm, or that there is none.
-#[derive(Drop)]
+#[derive(Clone, Copy)]
 pub enum Normalized {
     Unit(Vec3),
     None,

@@ -9,79 +9,79 @@ use crate::math::matrix::{
 };
 
 // 1 by 1: one measured number, or its variance.
-#[derive(Drop)]
+#[derive(Clone, Copy)]
 pub struct Mat1 {
     pub data: [f64; 1],
 }
 
 // 3 by 3: rotations, skew forms, blocks of three axes.
-#[derive(Drop)]
+#[derive(Clone, Copy)]
 pub struct Mat3 {
     pub data: [f64; 9],
 }
 
 // 6 by 6.
-#[derive(Drop)]
+#[derive(Clone, Copy)]
 pub struct Mat6 {
     pub data: [f64; 36],
 }
 
 // 18 by 18.
-#[derive(Drop)]
+#[derive(Clone, Copy)]
 pub struct Mat18 {
     pub data: [f64; 324],
 }
 
 // 21 by 21: the covariance.
-#[derive(Drop)]
+#[derive(Clone, Copy)]
 pub struct Mat21 {
     pub data: [f64; 441],
 }
 
 // 1 by 21: the output row of one measured number.
-#[derive(Drop)]
+#[derive(Clone, Copy)]
 pub struct Mat1x21 {
     pub data: [f64; 21],
 }
 
 // 3 by 21: an output matrix.
-#[derive(Drop)]
+#[derive(Clone, Copy)]
 pub struct Mat3x21 {
     pub data: [f64; 63],
 }
 
 // 21 by 3: a gain.
-#[derive(Drop)]
+#[derive(Clone, Copy)]
 pub struct Mat21x3 {
     pub data: [f64; 63],
 }
 
 // 21 by 6.
-#[derive(Drop)]
+#[derive(Clone, Copy)]
 pub struct Mat21x6 {
     pub data: [f64; 126],
 }
 
 // 21 by 18.
-#[derive(Drop)]
+#[derive(Clone, Copy)]
 pub struct Mat21x18 {
     pub data: [f64; 378],
 }
 
 // A column of 3.
-#[derive(Drop)]
+#[derive(Clone, Copy)]
 pub struct Vector3 {
     pub data: [f64; 3],
 }
 
 // A column of 6.
-#[derive(Drop)]
+#[derive(Clone, Copy)]
 pub struct Vector6 {
     pub data: [f64; 6],
 }
 
 // A column of 21; a gain of one measured number is one.
-#[derive(Drop)]
+#[derive(Clone, Copy)]
 pub struct Vector21 {
     pub data: [f64; 21],
 }

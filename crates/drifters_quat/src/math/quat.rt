@@ -6,7 +6,7 @@ use drifters_core::math::vec3::Vec3;
 use drifters_matrix::math::shapes::Mat3;
 use drifters_real::math::real::{SMALL_ANGLE, is_finite, sin_cos, sqrt};
 
-#[derive(Drop)]
+#[derive(Clone, Copy)]
 pub struct Quat {
     pub w: f64,
     pub x: f64,

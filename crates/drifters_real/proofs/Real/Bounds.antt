@@ -21,16 +21,16 @@ use Rattle.drifters_real.proofs.Real.ProductError.{product_within, same_within}
 
 -- ---- what is computed at X: each sum's error is at most 2048 units, and the sums are less than 2 and 8 apart
 pub record Computed (X : ℕ) : Type 0 where
-  pub sinc_plus : sinc_plus_error X ≤ 2048
-  pub sinc_minus : sinc_minus_error X ≤ 2048
-  pub cos_plus : cos_plus_error X ≤ 2048
-  pub cos_minus : cos_minus_error X ≤ 2048
+  pub sinc_plus_err : sinc_plus_error X ≤ 2048
+  pub sinc_minus_err : sinc_minus_error X ≤ 2048
+  pub cos_plus_err : cos_plus_error X ≤ 2048
+  pub cos_minus_err : cos_minus_error X ≤ 2048
   pub sinc_tested : T (tested_to sinc_plus sinc_minus (2 ^ 65 - 2 ^ 11) X)
   pub cos_tested : T (tested_to cos_plus cos_minus (2 ^ 67 - 2 ^ 11) X)
 
 pub at_limit : Computed square_limit
 unfolding sinc_plus_error sinc_minus_error cos_plus_error cos_minus_error tested sinc_plus sinc_minus cos_plus cos_minus
-at_limit = record { sinc_plus = lit≤ tt; sinc_minus = lit≤ tt; cos_plus = lit≤ tt; cos_minus = lit≤ tt; sinc_tested = tt; cos_tested = tt }
+at_limit = record { sinc_plus_err = lit≤ tt; sinc_minus_err = lit≤ tt; cos_plus_err = lit≤ tt; cos_minus_err = lit≤ tt; sinc_tested = tt; cos_tested = tt }
 
 -- ---- the cosine of an angle a / b
 module _ (X a b x : ℕ) (c : Computed X) (s : SquareNear a b x) (small : x ≤ X) where
@@ -39,7 +39,7 @@ module _ (X a b x : ℕ) (c : Computed X) (s : SquareNear a b x) (small : x ≤ 
   cosine_within =
       let close = cos_close X (2 ^ 67 - 2 ^ 11) x c.cos_tested small in
       difference_within (b ^ 62 * factorial 62) (cos_plus x) (cos_minus x) (exact_cos_plus a b) (exact_cos_minus a b) (cos_plus_error X) (cos_minus_error X)
-      (cos_plus_near X a b x s.low s.high small) (cos_minus_near X a b x s.low s.high small) c.cos_plus c.cos_minus close.over close.under
+      (cos_plus_near X a b x s.low s.high small) (cos_minus_near X a b x s.low s.high small) c.cos_plus_err c.cos_minus_err close.over close.under
 
 -- ---- where the square is 0
 one_is : sinc_of_square 0 ≡ fin false 1 (pos 0)
@@ -80,7 +80,7 @@ module _ (X l m : ℕ) (e : ℤ) (x : ℕ) (c : Computed X) (small_enough : l * 
   unfolding sinc_of_square
   large least =
       let close = sinc_close X (2 ^ 65 - 2 ^ 11) x c.sinc_tested small in
-      product_within l m e D small_enough most least (sinc_plus x) (sinc_minus x) (exact_sin_plus a b) (exact_sin_minus a b) (sinc_plus_error X) (sinc_minus_error X) plus_near minus_near c.sinc_plus c.sinc_minus close.over close.under
+      product_within l m e D small_enough most least (sinc_plus x) (sinc_minus x) (exact_sin_plus a b) (exact_sin_minus a b) (sinc_plus_error X) (sinc_minus_error X) plus_near minus_near c.sinc_plus_err c.sinc_minus_err close.over close.under
 
   -- below it the rule's square is 0, and the sine is the angle
   tiny : x ≡ 0 → Within (mul binary64 (fin false m e) (sinc_of_square x)) (exact_sin_plus a b) (exact_sin_minus a b) (b * D) a (b * 2 ^ 50)
@@ -88,7 +88,7 @@ module _ (X l m : ℕ) (e : ℤ) (x : ℕ) (c : Computed X) (small_enough : l * 
       same_within a b D (exact_sin_plus a b) (exact_sin_minus a b) (sinc_plus_error X) (sinc_minus_error X)
       (subst (λ (y : ℕ). Between y (exact_sin_plus a b) (a * D) (sinc_plus_error X)) (ap sinc_plus none ∙ plus_0) plus_near)
       (subst (λ (y : ℕ). Between y (exact_sin_minus a b) (a * D) (sinc_minus_error X)) (ap sinc_minus none ∙ minus_0) minus_near)
-      c.sinc_plus c.sinc_minus (mul binary64 (fin false m e) (sinc_of_square x)) (down_pos e)
+      c.sinc_plus_err c.sinc_minus_err (mul binary64 (fin false m e) (sinc_of_square x)) (down_pos e)
       (subst (λ (v : Float). HasValue v false a b) (sym (ap (λ (y : ℕ). mul binary64 (fin false m e) (sinc_of_square y)) none ∙ ap (mul binary64 (fin false m e)) one_is ∙ times_one m e))
       (subst₂ (λ (y z : ℕ). HasValue (round binary64 false (a * (1 * 1)) (b * 1)) false y z) (mul-one a) (mul-one b) (times_one_exact l small_limit false m e f most)))
     where

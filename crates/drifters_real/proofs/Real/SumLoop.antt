@@ -195,29 +195,29 @@ module _ (x : ℕ) (w : Wide) (i : ℕ) (count : i ≤ 16) (w-is : IsWide w (ter
       none : (h l : ℕ) → h + l ≡ 0 → h * 2 ^ 32 + l ≡ 0
       none h l z = omega arith
 
-  sinc_plus : sum_of (sp_term x) i ≡ sinc_plus x
+  sinc_plus_lem : sum_of (sp_term x) i ≡ sinc_plus x
   unfolding sinc_plus
-  sinc_plus = whole (sp_term x) (λ j k e. later_even x i j e k)
+  sinc_plus_lem = whole (sp_term x) (λ j k e. later_even x i j e k)
 
-  sinc_minus : sum_of (sn_term x) i ≡ sinc_minus x
+  sinc_minus_lem : sum_of (sn_term x) i ≡ sinc_minus x
   unfolding sinc_minus
-  sinc_minus = whole (sn_term x) (λ j k e. later_odd x i j e k)
+  sinc_minus_lem = whole (sn_term x) (λ j k e. later_odd x i j e k)
 
-  cos_plus : sum_of (cp_term x) i ≡ cos_plus x
+  cos_plus_lem : sum_of (cp_term x) i ≡ cos_plus x
   unfolding cos_plus
-  cos_plus = whole (cp_term x) (λ j k e. ap (λ (y : ℕ). (4 * j + 1) * y) (later_even x i j e k) ∙ mul-zero (4 * j + 1))
+  cos_plus_lem = whole (cp_term x) (λ j k e. ap (λ (y : ℕ). (4 * j + 1) * y) (later_even x i j e k) ∙ mul-zero (4 * j + 1))
 
-  cos_minus : sum_of (cn_term x) i ≡ cos_minus x
+  cos_minus_lem : sum_of (cn_term x) i ≡ cos_minus x
   unfolding cos_minus
-  cos_minus = whole (cn_term x) (λ j k e. ap (λ (y : ℕ). (4 * j + 3) * y) (later_odd x i j e k) ∙ mul-zero (4 * j + 3))
+  cos_minus_lem = whole (cn_term x) (λ j k e. ap (λ (y : ℕ). (4 * j + 3) * y) (later_odd x i j e k) ∙ mul-zero (4 * j + 3))
 
 pub at_end : (x : ℕ) (w sp sn cp cn : Wide) (i : ℕ) → x ≤ square_limit → SumsSoFar x w sp sn cp cn i → (16 ≤ i) ⊎ (w.h + w.l ≡ 0) → AllSummed x sp sn cp cn
 unfolding sinc_plus sinc_minus cos_plus cos_minus sum_of term
 at_end x w sp sn cp cn i X g left = record {
-  sin_plus = summed i sp (sum_of (sp_term x) i) (sinc_plus x) g.count g.sin_plus (sinc_plus x w i g.count g.term_is left) (lt_of_le_of_lt (sinc_plus_mono x square_limit X) (lit< tt));
-  sin_minus = summed i sn (sum_of (sn_term x) i) (sinc_minus x) g.count g.sin_minus (sinc_minus x w i g.count g.term_is left) (lt_of_le_of_lt (sinc_minus_mono x square_limit X) (lit< tt));
-  cos_plus = summed i cp (sum_of (cp_term x) i) (cos_plus x) g.count g.cos_plus (cos_plus x w i g.count g.term_is left) (lt_of_le_of_lt (cos_plus_mono x square_limit X) (lit< tt));
-  cos_minus = summed i cn (sum_of (cn_term x) i) (cos_minus x) g.count g.cos_minus (cos_minus x w i g.count g.term_is left) (lt_of_le_of_lt (cos_minus_mono x square_limit X) (lit< tt));
+  sin_plus = summed i sp (sum_of (sp_term x) i) (sinc_plus x) g.count g.sin_plus (sinc_plus_lem x w i g.count g.term_is left) (lt_of_le_of_lt (sinc_plus_mono x square_limit X) (lit< tt));
+  sin_minus = summed i sn (sum_of (sn_term x) i) (sinc_minus x) g.count g.sin_minus (sinc_minus_lem x w i g.count g.term_is left) (lt_of_le_of_lt (sinc_minus_mono x square_limit X) (lit< tt));
+  cos_plus = summed i cp (sum_of (cp_term x) i) (cos_plus x) g.count g.cos_plus (cos_plus_lem x w i g.count g.term_is left) (lt_of_le_of_lt (cos_plus_mono x square_limit X) (lit< tt));
+  cos_minus = summed i cn (sum_of (cn_term x) i) (cos_minus x) g.count g.cos_minus (cos_minus_lem x w i g.count g.term_is left) (lt_of_le_of_lt (cos_minus_mono x square_limit X) (lit< tt));
 }
 
 -- ---- the next terms, from what `next_term` gives

@@ -6,8 +6,7 @@ use lib.Ieee.Fits.{up_pos}
 use Rattle.drifters_real.specs.Scalar.{plus_zero}
 use Rattle.drifters_real.specs.Real.{abs}
 use Rattle.drifters_real.proofs.Real.Rounding.{zero_exp}
-use Rattle.drifters_real.proofs.math.real.abs.Statement.{statement}
-use Rattle.drifters_real.proofs.math.real.abs.Tie as tie
+use Rattle.drifters_real.proofs.math.real.abs.Goals as goal
 
 -- below 0 the negative has the sign cleared
 below-zero : (x : Float) → lt x plus_zero ≡ true → neg x ≡ abs x
@@ -57,14 +56,11 @@ otherwise (fin true (suc m) e) h k = absurd (no (suc m * up e * 1) (0 * down e) 
     no : (a z : ℕ) → 0 < a → a + z ≤ 0 → ⊥
     no a z h k = omega arith
 
-returns : tie.Need-returns
-returns c = below-zero c.before.args.x c.if1.true
+pub returns-then-x : goal.returns-then-x
+returns-then-x c = below-zero c.args.x c.if-x.true
 
-returns-2 : tie.Need-returns-2
-returns-2 c = at_zero c.before.before.args.x (subst T (sym c.before.before.well-formed.0.1) tt) c.if2.true
+pub returns-then-x-2 : goal.returns-then-x-2
+returns-then-x-2 c = at_zero c.args.x (subst T (sym c.well_formed.0.1) tt) c.if-x-2.true
 
-returns-3 : tie.Need-returns-3
-returns-3 c = otherwise c.before.before.args.x c.before.if1.false c.if2.false
-
-pub abs-spec : {M : Type 1} → statement M
-abs-spec = tie.close (tie.spec returns returns-2 returns-3)
+pub returns-else-x-2 : goal.returns-else-x-2
+returns-else-x-2 c = otherwise c.args.x c.if-x.false c.if-x-2.false
