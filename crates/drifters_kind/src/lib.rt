@@ -1,3 +1,4 @@
 // The kinds of call, by which a filter is used.
 #![tactic(auto)]
+
 pub mod kind;

@@ -1,0 +1,19 @@
+-- `math::matrix::add_in` meets its contract.
+use Prim.Native.Nat.{◌-◌}
+use native.Mathlib.Omega.{arith}
+use lib.Ieee.{nan}
+use lib.ListN.{get_or}
+use Rattle.drifters_real.specs.Scalar.{◌⊕◌}
+use Rattle.drifters_matrix.specs.Matrix.{add_matrix}
+use Rattle.drifters_matrix.proofs.Matrix.Elements.{Mapped, mapped_none, mapped_set, mapped_done}
+use Rattle.drifters_matrix.proofs.math.matrix.add_in.Goals as goal
+
+pub returns : goal.returns
+unfolding add_matrix
+returns c = mapped_done c.loop-k.invariant (omega arith)
+
+pub loop-k-init : goal.loop-k-init
+loop-k-init c = mapped_none c.requires.0
+
+pub loop-k-preserved : goal.loop-k-preserved
+loop-k-preserved c = mapped_set c.loop-k.invariant (omega arith)

@@ -1,0 +1,33 @@
+-- `math::matrix::from_diagonal_in` meets its contract.
+use mathlib.Core.Path.{◌≡◌, refl, sym, ap, ◌∙◌}
+use mathlib.Core.Bool.{Bool, true, false, cond}
+use mathlib.Core.List.{List}
+use Prim.Native.Nat.{ℕ, ◌+◌, ◌*◌, ◌-◌, ◌≤◌, ◌<◌}
+use native.Mathlib.Omega.{arith}
+use borrow.Author.Count.{below_none, below_more}
+use borrow.Author.Tests.{eqb-true, eqb-false}
+use lib.Dec.{eqb}
+use lib.Ieee.{Float, nan}
+use lib.ListN.{length, get_or, set, length-set, length-replicate, get_or-replicate}
+use lib.Seq.{get_or-set_same, get_or-set_other}
+use Rattle.drifters_real.specs.Scalar.{plus_zero}
+use Rattle.drifters_matrix.specs.Matrix.{at, zeros, from_diagonal}
+use Rattle.drifters_matrix.proofs.Matrix.Grid.{at_in, same_place, matrix_is}
+use Rattle.drifters_matrix.proofs.math.matrix.from_diagonal_in.Given as goal
+
+-- entry (p, q) of the result
+abbrev pub entry_of : List Float → ℕ → ℕ → Float
+entry_of d p q = cond (eqb p q) (get_or d p nan) plus_zero
+
+-- What the loop keeps: the rows before i are those of the result, and the others zeros.
+pub record Rows (n : ℕ) (d : List Float) (i : ℕ) (l : List Float) : Type 0 where
+  pub bound : i ≤ n
+  pub size : length l ≡ n * n
+  pub passed : (p : ℕ) → p < i → (q : ℕ) → q < n → at n l p q ≡ entry_of d p q
+  pub rest : (p q : ℕ) → i ≤ p → p < n → q < n → at n l p q ≡ plus_zero
+
+abbrev pub invariant-loop-i : goal.invariant-loop-i
+invariant-loop-i l = (length l.initial.m ≡ l.n * l.n) × Rows l.n l.d l.i l.m
+
+abbrev pub decreases-loop-i : goal.decreases-loop-i
+decreases-loop-i l = l.n - l.i

@@ -1,0 +1,13 @@
+-- `math::matrix::neg_in` meets its contract.
+use Prim.Native.Nat.{◌-◌}
+use native.Mathlib.Omega.{arith}
+use lib.Ieee.{neg}
+use Rattle.drifters_matrix.specs.Matrix.{neg_matrix}
+use Rattle.drifters_matrix.proofs.Matrix.Elements.{Mapped, mapped_none, mapped_set, mapped_done}
+use Rattle.drifters_matrix.proofs.math.matrix.neg_in.Given as goal
+
+abbrev pub invariant-loop-k : goal.invariant-loop-k
+invariant-loop-k l = Mapped l.n (λ j x. neg x) l.initial.m l.k l.m
+
+abbrev pub decreases-loop-k : goal.decreases-loop-k
+decreases-loop-k l = l.n - l.k

@@ -1,0 +1,39 @@
+-- `math::matrix::scale_columns_into` meets its contract: before round j of a row, the entries before that at column j are made.
+use mathlib.Core.Path.{◌≡◌, refl, ◌∙◌}
+use mathlib.Core.List.{List}
+use Prim.Native.Nat.{ℕ, ◌+◌, ◌*◌, ◌-◌, ◌≤◌}
+use native.Mathlib.Omega.{arith}
+use lib.ListN.{length, get_or, length-set}
+use lib.Ieee.{Float, nan}
+use Rattle.drifters_real.specs.Scalar.{◌⊕◌, ◌⊗◌, plus_zero}
+use Rattle.drifters_matrix.specs.Matrix.{at}
+use Rattle.drifters_matrix.proofs.Matrix.Grid.{Entries, entries_none, entries_set, entries_next, entries_done}
+use Rattle.drifters_matrix.proofs.Matrix.RowStart.{RowStart, row_start_first, row_start_next, row_start_in}
+use Rattle.drifters_matrix.proofs.Matrix.Skips.{diagonal_product}
+use Rattle.drifters_matrix.proofs.math.matrix.scale_columns_into.Invariants.{times}
+use Rattle.drifters_matrix.proofs.math.matrix.scale_columns_into.Goals as goal
+
+pub loop-init : goal.loop-init
+loop-init c = (omega arith, row_start_first, c.requires.0, c.requires.1.0, c.requires.1.1.0, entries_none)
+
+pub loop-j-init : goal.loop-j-init
+loop-j-init c = let v = c.loop.invariant in (omega arith, v.1, row_start_in v.1 (omega arith), v.2, v.3, v.4, v.5)
+
+pub loop-j-preserved : goal.loop-j-preserved
+loop-j-preserved c =
+    let v = c.loop-j.invariant in
+    (omega arith, v.1, v.2, v.3, v.4, simp length-set v.5, rw v.1.start (entries_set v.6 (omega arith) (omega arith) refl))
+
+pub loop-preserved : goal.loop-preserved
+loop-preserved c =
+    let v = c.loop-j.invariant in
+    (omega arith, row_start_next v.1, v.3, v.4, v.5, entries_next v.6 (omega arith))
+
+pub returns : goal.returns
+returns c =
+    let L = c.before in
+    let s = L.before in
+    let a = s.args in
+    let v = L.loop.invariant in
+    entries_done v.5 (omega arith) v.4
+    ∙ diagonal_product a.r a.c a.a.now a.d.now v.2 v.3 s.requires.1.1.1.0 s.requires.1.1.1.1

@@ -1,0 +1,17 @@
+-- `math::matrix::scale_in` meets its contract.
+use Prim.Native.Nat.{◌-◌}
+use native.Mathlib.Omega.{arith}
+use Rattle.drifters_real.specs.Scalar.{◌⊗◌}
+use Rattle.drifters_matrix.specs.Matrix.{scaled}
+use Rattle.drifters_matrix.proofs.Matrix.Elements.{Mapped, mapped_none, mapped_set, mapped_done}
+use Rattle.drifters_matrix.proofs.math.matrix.scale_in.Goals as goal
+
+pub returns : goal.returns
+unfolding scaled
+returns c = mapped_done c.loop-k.invariant (omega arith)
+
+pub loop-k-init : goal.loop-k-init
+loop-k-init c = mapped_none c.requires
+
+pub loop-k-preserved : goal.loop-k-preserved
+loop-k-preserved c = mapped_set c.loop-k.invariant (omega arith)

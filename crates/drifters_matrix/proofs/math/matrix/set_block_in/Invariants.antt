@@ -1,0 +1,26 @@
+-- `set_block_in` meets its contract. The loops keep the entries of the block before (i, j). Assumes nothing.
+use mathlib.Core.Path.{◌≡◌, refl}
+use mathlib.Core.Bool.{false}
+use mathlib.Core.List.{List}
+use Prim.Native.Nat.{◌+◌, ◌*◌, ◌-◌, ◌≤◌}
+use native.Mathlib.Omega.{arith}
+use borrow.Author.Rules.{rules}
+use lib.ListN.{length, length-set}
+use lib.Ieee.{Float}
+use Rattle.drifters_matrix.proofs.Matrix.Place.{Place, place, within}
+use Rattle.drifters_matrix.proofs.Matrix.Grid.{row_in}
+use Rattle.drifters_matrix.proofs.Matrix.Block.{fits_tested, block_fits_lem, set_is, BlockStored, stored_none, stored_set, stored_next, stored_done}
+use Rattle.drifters_matrix.proofs.math.matrix.set_block_in.Given as goal
+
+abbrev pub invariant-loop-j : goal.invariant-loop-j
+invariant-loop-j l =
+    (l.j ≤ l.bc) × (l.i * l.bc + l.bc ≤ l.br * l.bc) × ((l.r0 + l.i) * l.c + l.c ≤ l.r * l.c) × (length l.m ≡ l.r * l.c) × ((o : List Float) → BlockStored l.c l.br l.bc l.r0 l.c0 l.src o l.i 0 l.initial.m → BlockStored l.c l.br l.bc l.r0 l.c0 l.src o l.i l.j l.m)
+
+abbrev pub decreases-loop-j : goal.decreases-loop-j
+decreases-loop-j l = l.bc - l.j
+
+abbrev pub invariant-loop-i : goal.invariant-loop-i
+invariant-loop-i l = (l.i ≤ l.br) × (l.r0 + l.br ≤ l.r) × (l.c0 + l.bc ≤ l.c) × (length l.m ≡ l.r * l.c) × BlockStored l.c l.br l.bc l.r0 l.c0 l.src l.initial.m l.i 0 l.m
+
+abbrev pub decreases-loop-i : goal.decreases-loop-i
+decreases-loop-i l = l.br - l.i
