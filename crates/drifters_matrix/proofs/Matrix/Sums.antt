@@ -18,12 +18,12 @@ module _ (skip : Bool) (f g : ℕ → Float) (k : ℕ) where
   -- a term that is skipped
   pub sum_skip : skip ≡ true → eq (f k) plus_zero ≡ true → sum_terms skip f g (k + 1) ≡ sum_terms skip f g k
   unfolding sum_terms
-  sum_skip t z = rw (add-one, t, z)
+  sum_skip t z = rw (add-one, t, z) (ap (λ (s : Bool). sum_terms s f g k) t)
 
   -- a term that is added
   pub sum_add : (skip ≡ false) ⊎ (eq (f k) plus_zero ≡ false) → sum_terms skip f g (k + 1) ≡ sum_terms skip f g k ⊕ f k ⊗ g k
   unfolding sum_terms
-  sum_add = ⊎_elim (λ t. rw (add-one, t)) (λ z. rw (add-one, z, and-false))
+  sum_add = ⊎_elim (λ t. rw (add-one, t) (ap (λ (s : Bool). sum_terms s f g k ⊕ f k ⊗ g k) t)) (λ z. rw (add-one, z, and-false))
 
 pub sum_ext : (skip : Bool) (f g h : ℕ → Float) (n : ℕ) → ((k : ℕ) → k < n → g k ≡ h k) → sum_terms skip f g n ≡ sum_terms skip f h n
 unfolding sum_terms

@@ -1,11 +1,9 @@
 -- `math::matrix::add_in` meets its contract.
 use Prim.Native.Nat.{◌-◌}
-use native.Mathlib.Omega.{arith}
 use lib.Ieee.{nan}
 use lib.ListN.{get_or}
 use Rattle.drifters_real.specs.Scalar.{◌⊕◌}
-use Rattle.drifters_matrix.specs.Matrix.{add_matrix}
-use Rattle.drifters_matrix.proofs.Matrix.Elements.{Mapped, mapped_none, mapped_set, mapped_done}
+use Rattle.drifters_matrix.proofs.Matrix.Elements.{Mapped}
 use Rattle.drifters_matrix.proofs.math.matrix.add_in.Given as goal
 
 abbrev pub invariant-loop-k : goal.invariant-loop-k

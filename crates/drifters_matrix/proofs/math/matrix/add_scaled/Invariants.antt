@@ -1,11 +1,9 @@
 -- `math::matrix::add_scaled` meets its contract.
-use mathlib.Core.Path.{refl}
 use Prim.Native.Nat.{◌+◌, ◌-◌}
-use native.Mathlib.Omega.{arith}
 use lib.Ieee.{nan}
 use lib.ListN.{length, get_or}
 use Rattle.drifters_real.specs.Scalar.{◌⊕◌, ◌⊗◌}
-use Rattle.drifters_matrix.proofs.Matrix.Elements.{Mapped, mapped_none, mapped_set, mapped_done}
+use Rattle.drifters_matrix.proofs.Matrix.Elements.{Mapped}
 use Rattle.drifters_matrix.proofs.math.matrix.add_scaled.Given as goal
 
 abbrev pub invariant-loop-j : goal.invariant-loop-j

@@ -1,11 +1,10 @@
 -- `math::matrix::all_finite` meets its contract: what was found so far, and the elements that are left to test, say whether all are finite.
-use mathlib.Core.Path.{◌≡◌, refl, sym, ap, ◌∙◌}
+use mathlib.Core.Path.{◌≡◌, refl, sym, ◌∙◌}
 use mathlib.Core.List.{List}
 use mathlib.Core.Bool.{Bool, ◌&&◌, and_assoc, and-true}
-use Prim.Native.Nat.{ℕ, ◌+◌, ◌-◌, ◌≤◌, ◌<◌}
+use Prim.Native.Nat.{ℕ, ◌+◌, ◌≤◌, ◌<◌}
 use native.Mathlib.Numerals.{add-one}
 use native.Mathlib.Omega.{arith}
-use borrow.Author.Rules.{rules}
 use lib.Ieee.{Float, nan}
 use lib.ListN.{length, get_or, drop, drop_of_length-le}
 use lib.Seq.{drop-cons}
@@ -25,14 +24,12 @@ none_left m k found h = rw (drop_of_length-le m h) (and-true found)
 
 pub loop-k-preserved : goal.loop-k-preserved
 loop-k-preserved c =
-    let L = c.before.before.before in
-    let m = L.args.m.now in
-    (omega arith, L.loop-k.invariant.1 ∙ next m L.loop-k.k L.loop-k.finite c.is_finite-finite.result (omega arith) c.is_finite-finite.ensures)
+    let m = c.args.m.now in
+    (omega arith, c.loop-k.invariant.1 ∙ next m c.loop-k.k c.loop-k.finite c.is_finite-finite.result (omega arith) c.is_finite-finite.ensures)
 
 pub returns : goal.returns
 returns c =
-    let L = c.before in
-    sym (L.loop-k.invariant.1 ∙ none_left L.args.m.now L.loop-k.k L.loop-k.finite c.loop-k-test.false)
+    sym (c.loop-k.invariant.1 ∙ none_left c.args.m.now c.loop-k.k c.loop-k.finite c.loop-k-test.false)
 
 pub loop-k-init : goal.loop-k-init
 loop-k-init c = (omega arith, refl)

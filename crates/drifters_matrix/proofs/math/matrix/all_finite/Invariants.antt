@@ -1,15 +1,8 @@
 -- `math::matrix::all_finite` meets its contract: what was found so far, and the elements that are left to test, say whether all are finite.
-use mathlib.Core.Path.{◌≡◌, refl, sym, ap, ◌∙◌}
-use mathlib.Core.List.{List}
-use mathlib.Core.Bool.{Bool, ◌&&◌, and_assoc, and-true}
-use Prim.Native.Nat.{ℕ, ◌+◌, ◌-◌, ◌≤◌, ◌<◌}
-use native.Mathlib.Numerals.{add-one}
-use native.Mathlib.Omega.{arith}
-use borrow.Author.Rules.{rules}
-use lib.Ieee.{Float, nan}
-use lib.ListN.{length, get_or, drop, drop_of_length-le}
-use lib.Seq.{drop-cons}
-use Rattle.drifters_real.specs.Real.{is_finite}
+use mathlib.Core.Path.{◌≡◌}
+use mathlib.Core.Bool.{◌&&◌}
+use Prim.Native.Nat.{◌-◌, ◌≤◌}
+use lib.ListN.{length, drop}
 use Rattle.drifters_matrix.specs.Matrix.{all_finite}
 use Rattle.drifters_matrix.proofs.math.matrix.all_finite.Given as goal
 

@@ -1,10 +1,9 @@
 -- `math::matrix::amax_of` meets its contract: after k entries it holds the largest size of the first k.
 use mathlib.Core.Path.{◌≡◌, refl, ap, ◌∙◌}
 use mathlib.Core.List.{List}
-use Prim.Native.Nat.{ℕ, ◌+◌, ◌-◌, ◌≤◌}
+use Prim.Native.Nat.{ℕ, ◌+◌}
 use native.Mathlib.Numerals.{add-one}
 use native.Mathlib.Omega.{arith}
-use borrow.Author.Rules.{rules}
 use lib.Ieee.{Float, nan}
 use lib.ListN.{get_or}
 use Rattle.drifters_matrix.specs.Matrix.{amax, larger}
@@ -21,8 +20,7 @@ loop-k-init c = (omega arith, refl)
 
 pub loop-k-preserved : goal.loop-k-preserved
 loop-k-preserved c =
-    let L = c.before.before.before in
-    (omega arith, next L.args.m.now L.loop-k.k L.loop-k.invariant.1 c.larger-largest.ensures)
+    (omega arith, next c.args.m.now c.loop-k.k c.loop-k.invariant.1 c.larger-largest.ensures)
 
 pub returns : goal.returns
 returns c = c.loop-k.invariant.1 ∙ ap (λ (k : ℕ). amax k c.args.m.now) (omega arith)

@@ -1,16 +1,11 @@
 -- `block_into` meets its contract. The loops keep the entries before (i, j). Assumes nothing.
-use mathlib.Core.Path.{◌≡◌, refl, ap, ◌∙◌}
-use mathlib.Core.Bool.{true, false}
+use mathlib.Core.Path.{◌≡◌}
 use mathlib.Core.List.{List}
 use Prim.Native.Nat.{ℕ, ◌+◌, ◌*◌, ◌-◌, ◌≤◌}
-use native.Mathlib.Omega.{arith}
-use borrow.Author.Rules.{rules}
-use lib.ListN.{length, length-set, length-replicate}
+use lib.ListN.{length}
 use lib.Ieee.{Float}
 use Rattle.drifters_matrix.specs.Matrix.{at}
-use Rattle.drifters_matrix.proofs.Matrix.Place.{Place, place, within}
-use Rattle.drifters_matrix.proofs.Matrix.Grid.{row_in, Entries, entries_none, entries_set, entries_next, entries_done}
-use Rattle.drifters_matrix.proofs.Matrix.Block.{fits_tested, block_fits_lem, block_is}
+use Rattle.drifters_matrix.proofs.Matrix.Grid.{Entries}
 use Rattle.drifters_matrix.proofs.math.matrix.block_into.Given as goal
 
 -- entry (i, j) of the block

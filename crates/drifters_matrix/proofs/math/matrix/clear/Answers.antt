@@ -1,11 +1,8 @@
 -- `math::matrix::clear` meets its contract.
 use mathlib.Core.Path.{refl, sym, ◌∙◌}
-use Prim.Native.Nat.{◌-◌}
 use native.Mathlib.Omega.{arith}
-use lib.ListN.{length}
-use Rattle.drifters_real.specs.Scalar.{plus_zero}
 use Rattle.drifters_matrix.proofs.Matrix.Tab.{tab_replicate}
-use Rattle.drifters_matrix.proofs.Matrix.Elements.{Mapped, mapped_none, mapped_set, mapped_done}
+use Rattle.drifters_matrix.proofs.Matrix.Elements.{mapped_none, mapped_set, mapped_done}
 use Rattle.drifters_matrix.proofs.math.matrix.clear.Goals as goal
 
 pub loop-j-init : goal.loop-j-init

@@ -1,11 +1,8 @@
 -- `math::matrix::copy_into` meets its contract.
-use mathlib.Core.Path.{sym, ◌∙◌}
 use Prim.Native.Nat.{◌-◌}
-use native.Mathlib.Omega.{arith}
 use lib.Ieee.{nan}
 use lib.ListN.{length, get_or}
-use Rattle.drifters_matrix.proofs.Matrix.Tab.{tab_get_d}
-use Rattle.drifters_matrix.proofs.Matrix.Elements.{Mapped, mapped_none, mapped_set, mapped_done}
+use Rattle.drifters_matrix.proofs.Matrix.Elements.{Mapped}
 use Rattle.drifters_matrix.proofs.math.matrix.copy_into.Given as goal
 
 abbrev pub invariant-loop-j : goal.invariant-loop-j

@@ -1,9 +1,7 @@
 -- `math::matrix::diagonal_into` meets its contract.
 use Prim.Native.Nat.{◌-◌}
-use native.Mathlib.Omega.{arith}
-use Rattle.drifters_matrix.specs.Matrix.{at, diagonal}
-use Rattle.drifters_matrix.proofs.Matrix.Grid.{at_in}
-use Rattle.drifters_matrix.proofs.Matrix.Elements.{Mapped, mapped_none, mapped_set, mapped_done}
+use Rattle.drifters_matrix.specs.Matrix.{at}
+use Rattle.drifters_matrix.proofs.Matrix.Elements.{Mapped}
 use Rattle.drifters_matrix.proofs.math.matrix.diagonal_into.Given as goal
 
 abbrev pub invariant-loop-i : goal.invariant-loop-i

@@ -1,18 +1,13 @@
 -- `math::matrix::from_diagonal_in` meets its contract.
-use mathlib.Core.Path.{◌≡◌, refl, sym, ap, ◌∙◌}
-use mathlib.Core.Bool.{Bool, true, false, cond}
+use mathlib.Core.Path.{◌≡◌}
+use mathlib.Core.Bool.{cond}
 use mathlib.Core.List.{List}
-use Prim.Native.Nat.{ℕ, ◌+◌, ◌*◌, ◌-◌, ◌≤◌, ◌<◌}
-use native.Mathlib.Omega.{arith}
-use borrow.Author.Count.{below_none, below_more}
-use borrow.Author.Tests.{eqb-true, eqb-false}
+use Prim.Native.Nat.{ℕ, ◌*◌, ◌-◌, ◌≤◌, ◌<◌}
 use lib.Dec.{eqb}
 use lib.Ieee.{Float, nan}
-use lib.ListN.{length, get_or, set, length-set, length-replicate, get_or-replicate}
-use lib.Seq.{get_or-set_same, get_or-set_other}
+use lib.ListN.{length, get_or}
 use Rattle.drifters_real.specs.Scalar.{plus_zero}
-use Rattle.drifters_matrix.specs.Matrix.{at, zeros, from_diagonal}
-use Rattle.drifters_matrix.proofs.Matrix.Grid.{at_in, same_place, matrix_is}
+use Rattle.drifters_matrix.specs.Matrix.{at}
 use Rattle.drifters_matrix.proofs.math.matrix.from_diagonal_in.Given as goal
 
 -- entry (p, q) of the result

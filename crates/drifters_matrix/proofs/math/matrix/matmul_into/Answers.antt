@@ -1,5 +1,4 @@
 -- `math::matrix::matmul_into` meets its contract.
-use native.Mathlib.Omega.{arith}
 use Rattle.drifters_matrix.specs.Matrix.{matmul}
 use Rattle.drifters_matrix.proofs.math.matrix.matmul_into.Goals as goal
 

@@ -1,9 +1,7 @@
 -- `math::matrix::neg_in` meets its contract.
 use Prim.Native.Nat.{◌-◌}
-use native.Mathlib.Omega.{arith}
 use lib.Ieee.{neg}
-use Rattle.drifters_matrix.specs.Matrix.{neg_matrix}
-use Rattle.drifters_matrix.proofs.Matrix.Elements.{Mapped, mapped_none, mapped_set, mapped_done}
+use Rattle.drifters_matrix.proofs.Matrix.Elements.{Mapped}
 use Rattle.drifters_matrix.proofs.math.matrix.neg_in.Given as goal
 
 abbrev pub invariant-loop-k : goal.invariant-loop-k

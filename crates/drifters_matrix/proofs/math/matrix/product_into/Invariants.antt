@@ -1,17 +1,14 @@
 -- `math::matrix::product_into` meets its contract: the result is written row by row. s is the start of row i of a, t that of row i of out.
-use mathlib.Core.Path.{◌≡◌, refl, sym, ap, ◌∙◌}
+use mathlib.Core.Path.{◌≡◌}
 use mathlib.Core.Bool.{Bool}
 use mathlib.Core.List.{List}
 use Prim.Native.Nat.{ℕ, ◌*◌, ◌-◌, ◌≤◌}
-use native.Mathlib.Omega.{arith}
 use lib.ListN.{length}
 use lib.Ieee.{Float}
-use Rattle.drifters_matrix.specs.Matrix.{tab, at, sum_terms}
-use Rattle.drifters_matrix.proofs.Matrix.Tab.{front, front_zero}
-use Rattle.drifters_matrix.proofs.Matrix.RowStart.{RowStart, row_start_first, row_start_next, row_step, row_length}
-use Rattle.drifters_matrix.proofs.Matrix.Place.{RowPlace, row_place}
-use Rattle.drifters_matrix.proofs.Matrix.Grid.{by_row, rows_done}
-use Rattle.drifters_matrix.proofs.Matrix.Sums.{row_sum, row_done}
+use Rattle.drifters_matrix.specs.Matrix.{at, sum_terms}
+use Rattle.drifters_matrix.proofs.Matrix.Tab.{front}
+use Rattle.drifters_matrix.proofs.Matrix.RowStart.{RowStart}
+use Rattle.drifters_matrix.proofs.Matrix.Grid.{by_row}
 use Rattle.drifters_matrix.proofs.math.matrix.product_into.Given as goal
 
 -- entry (i, j) of the product

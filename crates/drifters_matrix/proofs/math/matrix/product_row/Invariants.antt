@@ -1,16 +1,10 @@
 -- `math::matrix::product_row` meets its contract: after k terms the row holds the sums of the first k. t is the start of row k of b.
-use mathlib.Core.Path.{◌≡◌, refl, ap, ◌∙◌}
-use mathlib.Core.Logic.{inl, inr, ⊎_elim}
-use Prim.Native.Nat.{◌+◌, ◌*◌, ◌-◌, ◌≤◌}
-use native.Mathlib.Omega.{arith}
-use borrow.Author.Rules.{rules}
-use borrow.Author.Tests.{not-true, not-false}
-use lib.Ieee.{eq, ne}
+use mathlib.Core.Path.{◌≡◌}
+use Prim.Native.Nat.{◌*◌, ◌-◌, ◌≤◌}
 use lib.ListN.{length}
 use Rattle.drifters_matrix.specs.Matrix.{tab}
-use Rattle.drifters_matrix.proofs.Matrix.Tab.{length_tab}
-use Rattle.drifters_matrix.proofs.Matrix.RowStart.{RowStart, row_start_first, row_start_next, row_start_in}
-use Rattle.drifters_matrix.proofs.Matrix.Sums.{row_sum, row_none, row_skip, row_add, row_done}
+use Rattle.drifters_matrix.proofs.Matrix.RowStart.{RowStart}
+use Rattle.drifters_matrix.proofs.Matrix.Sums.{row_sum}
 use Rattle.drifters_matrix.proofs.math.matrix.product_row.Given as goal
 
 abbrev pub invariant-loop-k : goal.invariant-loop-k

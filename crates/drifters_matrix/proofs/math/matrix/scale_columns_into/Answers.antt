@@ -1,16 +1,10 @@
 -- `math::matrix::scale_columns_into` meets its contract: before round j of a row, the entries before that at column j are made.
-use mathlib.Core.Path.{◌≡◌, refl, ◌∙◌}
-use mathlib.Core.List.{List}
-use Prim.Native.Nat.{ℕ, ◌+◌, ◌*◌, ◌-◌, ◌≤◌}
+use mathlib.Core.Path.{refl, ◌∙◌}
 use native.Mathlib.Omega.{arith}
-use lib.ListN.{length, get_or, length-set}
-use lib.Ieee.{Float, nan}
-use Rattle.drifters_real.specs.Scalar.{◌⊕◌, ◌⊗◌, plus_zero}
-use Rattle.drifters_matrix.specs.Matrix.{at}
-use Rattle.drifters_matrix.proofs.Matrix.Grid.{Entries, entries_none, entries_set, entries_next, entries_done}
-use Rattle.drifters_matrix.proofs.Matrix.RowStart.{RowStart, row_start_first, row_start_next, row_start_in}
+use lib.ListN.{length-set}
+use Rattle.drifters_matrix.proofs.Matrix.Grid.{entries_none, entries_set, entries_next, entries_done}
+use Rattle.drifters_matrix.proofs.Matrix.RowStart.{row_start_first, row_start_next, row_start_in}
 use Rattle.drifters_matrix.proofs.Matrix.Skips.{diagonal_product}
-use Rattle.drifters_matrix.proofs.math.matrix.scale_columns_into.Invariants.{times}
 use Rattle.drifters_matrix.proofs.math.matrix.scale_columns_into.Goals as goal
 
 pub loop-init : goal.loop-init
@@ -31,9 +25,7 @@ loop-preserved c =
 
 pub returns : goal.returns
 returns c =
-    let L = c.before in
-    let s = L.before in
-    let a = s.args in
-    let v = L.loop.invariant in
+    let a = c.args in
+    let v = c.loop.invariant in
     entries_done v.5 (omega arith) v.4
-    ∙ diagonal_product a.r a.c a.a.now a.d.now v.2 v.3 s.requires.1.1.1.0 s.requires.1.1.1.1
+    ∙ diagonal_product a.r a.c a.a.now a.d.now v.2 v.3 c.requires.1.1.1.0 c.requires.1.1.1.1

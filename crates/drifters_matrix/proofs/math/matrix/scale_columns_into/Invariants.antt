@@ -1,15 +1,13 @@
 -- `math::matrix::scale_columns_into` meets its contract: before round j of a row, the entries before that at column j are made.
-use mathlib.Core.Path.{◌≡◌, refl, ◌∙◌}
+use mathlib.Core.Path.{◌≡◌}
 use mathlib.Core.List.{List}
 use Prim.Native.Nat.{ℕ, ◌+◌, ◌*◌, ◌-◌, ◌≤◌}
-use native.Mathlib.Omega.{arith}
-use lib.ListN.{length, get_or, length-set}
+use lib.ListN.{length, get_or}
 use lib.Ieee.{Float, nan}
 use Rattle.drifters_real.specs.Scalar.{◌⊕◌, ◌⊗◌, plus_zero}
 use Rattle.drifters_matrix.specs.Matrix.{at}
-use Rattle.drifters_matrix.proofs.Matrix.Grid.{Entries, entries_none, entries_set, entries_next, entries_done}
-use Rattle.drifters_matrix.proofs.Matrix.RowStart.{RowStart, row_start_first, row_start_next, row_start_in}
-use Rattle.drifters_matrix.proofs.Matrix.Skips.{diagonal_product}
+use Rattle.drifters_matrix.proofs.Matrix.Grid.{Entries}
+use Rattle.drifters_matrix.proofs.Matrix.RowStart.{RowStart}
 use Rattle.drifters_matrix.proofs.math.matrix.scale_columns_into.Given as goal
 
 -- entry (i, j): that of a times number j of d

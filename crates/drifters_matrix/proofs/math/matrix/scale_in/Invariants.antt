@@ -1,9 +1,7 @@
 -- `math::matrix::scale_in` meets its contract.
 use Prim.Native.Nat.{◌-◌}
-use native.Mathlib.Omega.{arith}
 use Rattle.drifters_real.specs.Scalar.{◌⊗◌}
-use Rattle.drifters_matrix.specs.Matrix.{scaled}
-use Rattle.drifters_matrix.proofs.Matrix.Elements.{Mapped, mapped_none, mapped_set, mapped_done}
+use Rattle.drifters_matrix.proofs.Matrix.Elements.{Mapped}
 use Rattle.drifters_matrix.proofs.math.matrix.scale_in.Given as goal
 
 abbrev pub invariant-loop-k : goal.invariant-loop-k

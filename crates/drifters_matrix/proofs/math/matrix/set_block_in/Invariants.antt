@@ -1,15 +1,10 @@
 -- `set_block_in` meets its contract. The loops keep the entries of the block before (i, j). Assumes nothing.
-use mathlib.Core.Path.{◌≡◌, refl}
-use mathlib.Core.Bool.{false}
+use mathlib.Core.Path.{◌≡◌}
 use mathlib.Core.List.{List}
 use Prim.Native.Nat.{◌+◌, ◌*◌, ◌-◌, ◌≤◌}
-use native.Mathlib.Omega.{arith}
-use borrow.Author.Rules.{rules}
-use lib.ListN.{length, length-set}
+use lib.ListN.{length}
 use lib.Ieee.{Float}
-use Rattle.drifters_matrix.proofs.Matrix.Place.{Place, place, within}
-use Rattle.drifters_matrix.proofs.Matrix.Grid.{row_in}
-use Rattle.drifters_matrix.proofs.Matrix.Block.{fits_tested, block_fits_lem, set_is, BlockStored, stored_none, stored_set, stored_next, stored_done}
+use Rattle.drifters_matrix.proofs.Matrix.Block.{BlockStored}
 use Rattle.drifters_matrix.proofs.math.matrix.set_block_in.Given as goal
 
 abbrev pub invariant-loop-j : goal.invariant-loop-j

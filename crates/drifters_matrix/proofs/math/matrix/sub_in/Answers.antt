@@ -1,11 +1,7 @@
 -- `math::matrix::sub_in` meets its contract.
-use Prim.Native.Nat.{◌-◌}
 use native.Mathlib.Omega.{arith}
-use lib.Ieee.{nan}
-use lib.ListN.{get_or}
-use Rattle.drifters_real.specs.Scalar.{◌⊖◌}
 use Rattle.drifters_matrix.specs.Matrix.{sub_matrix}
-use Rattle.drifters_matrix.proofs.Matrix.Elements.{Mapped, mapped_none, mapped_set, mapped_done}
+use Rattle.drifters_matrix.proofs.Matrix.Elements.{mapped_none, mapped_set, mapped_done}
 use Rattle.drifters_matrix.proofs.math.matrix.sub_in.Goals as goal
 
 pub returns : goal.returns

@@ -1,13 +1,10 @@
 -- `symmetrize_in` meets its contract. The loops keep the pairs that are replaced. Assumes nothing.
-use mathlib.Core.Path.{◌≡◌, refl}
+use mathlib.Core.Path.{◌≡◌}
 use mathlib.Core.List.{List}
 use Prim.Native.Nat.{◌+◌, ◌*◌, ◌-◌, ◌≤◌, ◌<◌}
-use native.Mathlib.Omega.{arith}
-use lib.ListN.{length, length-set}
+use lib.ListN.{length}
 use lib.Ieee.{Float}
-use Rattle.drifters_matrix.proofs.Matrix.Place.{Place}
-use Rattle.drifters_matrix.proofs.Matrix.Grid.{row_in}
-use Rattle.drifters_matrix.proofs.Matrix.Mirror.{Symmetrized, symmetrized_none, symmetrized_step, symmetrized_next, symmetrized_done}
+use Rattle.drifters_matrix.proofs.Matrix.Mirror.{Symmetrized}
 use Rattle.drifters_matrix.proofs.math.matrix.symmetrize_in.Given as goal
 
 abbrev pub invariant-loop-j : goal.invariant-loop-j

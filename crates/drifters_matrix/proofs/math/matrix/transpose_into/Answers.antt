@@ -1,11 +1,11 @@
 -- `math::matrix::transpose_into` meets its contract: the result is written column by column. s is the start of row i of m, t that of row j of out.
-use mathlib.Core.Path.{◌≡◌, refl}
-use Prim.Native.Nat.{◌+◌, ◌*◌, ◌-◌, ◌≤◌, ◌<◌}
+use mathlib.Core.Path.{refl}
+use Prim.Native.Nat.{◌+◌, ◌≤◌}
 use native.Mathlib.Omega.{arith}
 use lib.ListN.{length, length-set}
-use Rattle.drifters_matrix.specs.Matrix.{at, transpose}
-use Rattle.drifters_matrix.proofs.Matrix.Columns.{Columns, columns_none, columns_set, columns_next, columns_done}
-use Rattle.drifters_matrix.proofs.Matrix.RowStart.{RowStart, row_start_first, row_start_next, row_start_in}
+use Rattle.drifters_matrix.specs.Matrix.{transpose}
+use Rattle.drifters_matrix.proofs.Matrix.Columns.{columns_none, columns_set, columns_next, columns_done}
+use Rattle.drifters_matrix.proofs.Matrix.RowStart.{row_start_first, row_start_next, row_start_in}
 use Rattle.drifters_matrix.proofs.math.matrix.transpose_into.Goals as goal
 
 pub loop-j-init : goal.loop-j-init
@@ -13,14 +13,10 @@ loop-j-init c =
     let v = c.loop-i.invariant in
     (omega arith, v.1, row_start_first, omega arith, omega (arith, row_start_in v.1 c.loop-i-test.true), v.2, v.3)
 
--- row j of out lies within it
-row : (c : goal.In-loop-j) → c.loop-j.t + c.args.r ≤ length c.loop-j.out
-row c = let v = c.loop-j.invariant in omega (arith, row_start_in v.2 c.loop-j-test.true, v.5)
-
 pub loop-j-preserved : goal.loop-j-preserved
 loop-j-preserved c =
     let v = c.loop-j.invariant in
-    let h = row c.before in
+    let h = (let it : c.loop-j.t + c.args.r ≤ length c.loop-j.out = let v = c.loop-j.invariant in omega (arith, row_start_in v.2 c.loop-j-test.true, v.5) in it) in
     (omega arith, v.1, row_start_next v.2, v.3, v.4, simp length-set v.5, rw (v.2.start, v.1.start) (columns_set v.6 (omega arith) (omega arith) (omega arith) refl))
 
 pub loop-i-preserved : goal.loop-i-preserved
@@ -36,13 +32,13 @@ pub loop-i-init : goal.loop-i-init
 loop-i-init c = (omega arith, row_start_first, c.requires.1, columns_none)
 
 pub overflow_add-out-in-loop-j : goal.overflow_add-out-in-loop-j
-overflow_add-out-in-loop-j c = omega (arith, row c.before)
+overflow_add-out-in-loop-j c = omega (arith, (let it : c.loop-j.t + c.args.r ≤ length c.loop-j.out = let v = c.loop-j.invariant in omega (arith, row_start_in v.2 c.loop-j-test.true, v.5) in it))
 
 pub offset_bounds-out-t : goal.offset_bounds-out-t
-offset_bounds-out-t c = omega (arith, row c.before)
+offset_bounds-out-t c = omega (arith, (let it : c.loop-j.t + c.args.r ≤ length c.loop-j.out = let v = c.loop-j.invariant in omega (arith, row_start_in v.2 c.loop-j-test.true, v.5) in it))
 
 pub bounds-out-t : goal.bounds-out-t
-bounds-out-t c = omega (arith, row c.before)
+bounds-out-t c = omega (arith, (let it : c.loop-j.t + c.args.r ≤ length c.loop-j.out = let v = c.loop-j.invariant in omega (arith, row_start_in v.2 c.loop-j-test.true, v.5) in it))
 
 pub overflow_add-t : goal.overflow_add-t
-overflow_add-t c = omega (arith, row c.before)
+overflow_add-t c = omega (arith, (let it : c.loop-j.t + c.args.r ≤ length c.loop-j.out = let v = c.loop-j.invariant in omega (arith, row_start_in v.2 c.loop-j-test.true, v.5) in it))

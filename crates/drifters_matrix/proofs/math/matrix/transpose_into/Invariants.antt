@@ -1,11 +1,10 @@
 -- `math::matrix::transpose_into` meets its contract: the result is written column by column. s is the start of row i of m, t that of row j of out.
-use mathlib.Core.Path.{◌≡◌, refl}
+use mathlib.Core.Path.{◌≡◌}
 use Prim.Native.Nat.{◌+◌, ◌*◌, ◌-◌, ◌≤◌, ◌<◌}
-use native.Mathlib.Omega.{arith}
-use lib.ListN.{length, length-set}
-use Rattle.drifters_matrix.specs.Matrix.{at, transpose}
-use Rattle.drifters_matrix.proofs.Matrix.Columns.{Columns, columns_none, columns_set, columns_next, columns_done}
-use Rattle.drifters_matrix.proofs.Matrix.RowStart.{RowStart, row_start_first, row_start_next, row_start_in}
+use lib.ListN.{length}
+use Rattle.drifters_matrix.specs.Matrix.{at}
+use Rattle.drifters_matrix.proofs.Matrix.Columns.{Columns}
+use Rattle.drifters_matrix.proofs.Matrix.RowStart.{RowStart}
 use Rattle.drifters_matrix.proofs.math.matrix.transpose_into.Given as goal
 
 abbrev pub invariant-loop-j : goal.invariant-loop-j
