@@ -1,0 +1,159 @@
+-- `cholesky_into` meets its contract. The loops keep the factor's entries before the one that is made. Assumes nothing.
+use mathlib.Core.Path.{◌≡◌, refl, sym, ap, ◌∙◌}
+use mathlib.Core.Bool.{true, cond}
+use mathlib.Core.Logic.{⊎_elim}
+use Prim.Native.Nat.{ℕ, ◌+◌, ◌*◌, ◌-◌, ◌≤◌}
+use native.Mathlib.Omega.{arith}
+use borrow.Author.Rules.{rules}
+use lib.ListN.{length, set, length-set, length-replicate}
+use Rattle.drifters_matrix.specs.Matrix.{at}
+use Rattle.drifters_cholesky.specs.Cholesky.{none, lower, cholesky, factor_rows, factor_columns, sub_terms, reduced}
+use Rattle.drifters_matrix.proofs.Matrix.Place.{Place}
+use Rattle.drifters_matrix.proofs.Matrix.Grid.{row_in}
+use Rattle.drifters_cholesky.proofs.SubTerms.{sub_step}
+use Rattle.drifters_cholesky.proofs.Factor.{not_finite_bad, finite_bad, stop, pivot, quotient, factor_rows_next, stops}
+use Rattle.drifters_cholesky.proofs.math.cholesky.cholesky_into.Goals as goal
+
+pub rows-init : goal.rows-init
+unfolding factor_rows
+rows-init c =
+    let e : length c.args.l.now ≡ c.args.n * c.args.n = ap length c.requires.1 ∙ length-replicate _ _ in
+    (omega arith, e, e, refl, ap lower (sym c.requires.1))
+
+pub columns-init : goal.columns-init
+unfolding factor_columns
+columns-init c =
+    let n = c.args.n in
+    (omega arith, row_in c.rows.i n n (omega arith), c.rows.invariant.2, c.rows.invariant.3, c.rows.invariant.4)
+
+pub loop-k-init : goal.loop-k-init
+unfolding sub_terms
+loop-k-init c =
+    let n = c.args.n in
+    (omega arith, row_in c.columns.j n n (omega arith), refl)
+
+pub loop-k-preserved : goal.loop-k-preserved
+loop-k-preserved c =
+    let a = c.args in
+    let f = at a.n c.columns.l c.rows.i in
+    let g = at a.n c.columns.l c.columns.j in
+    (omega arith, c.loop-k.invariant.1, sub_step (at a.n a.a.now c.rows.i c.columns.j) f g c.loop-k.k c.loop-k.invariant.2)
+
+pub columns-preserved : goal.columns-preserved
+columns-preserved c =
+    let a = c.args in
+    let s = c.loop-k.sum in
+    let e = c.columns.invariant.4 in
+    let f = factor_rows a.n a.a.now c.rows.i in
+    let x : (length c.if-i-j.l ≡ a.n * a.n) × (factor_columns a.n a.a.now c.rows.i (c.columns.j + 1) f ≡ lower c.if-i-j.l) =
+    ⊎_elim
+    (λ w. (
+      ap length w.5 ∙ simp length-set c.columns.invariant.2,
+      pivot a.n a.a.now c.rows.i c.columns.j f c.columns.l s e (let it : let a = c.args in c.loop-k.sum ≡ reduced a.n a.a.now c.columns.l c.rows.i c.columns.j = let a = c.args in let z : c.loop-k.k ≡ c.columns.j = omega arith in c.loop-k.invariant.2 ∙ ap (sub_terms (at a.n a.a.now c.rows.i c.columns.j) (at a.n c.columns.l c.rows.i) (at a.n c.columns.l c.columns.j)) z in it) w.0.taken (finite_bad s w.1.ensures w.2.left ∙ w.3.left)
+          ∙ ap (λ v. lower (set c.columns.l (c.rows.i * a.n + c.columns.j) v)) (sym w.4.ensures)
+          ∙ ap lower (sym w.5),
+    ))
+    (λ w. (ap length w.2 ∙ simp length-set c.columns.invariant.2, quotient a.n a.a.now c.rows.i c.columns.j f c.columns.l s e (let it : let a = c.args in c.loop-k.sum ≡ reduced a.n a.a.now c.columns.l c.rows.i c.columns.j = let a = c.args in let z : c.loop-k.k ≡ c.columns.j = omega arith in c.loop-k.invariant.2 ∙ ap (sub_terms (at a.n a.a.now c.rows.i c.columns.j) (at a.n c.columns.l c.rows.i) (at a.n c.columns.l c.columns.j)) z in it) w.0.left ∙ ap lower (sym w.2)))
+    c.if-i-j.branch in
+    (omega arith, c.columns.invariant.1, x.0, c.columns.invariant.3, x.1)
+
+pub rows-preserved : goal.rows-preserved
+rows-preserved c =
+    let a = c.args in
+    let z : c.columns.j ≡ c.rows.i + 1 = omega arith in (
+      omega arith,
+      c.rows.invariant.1,
+      c.columns.invariant.2,
+      c.columns.invariant.3,
+      factor_rows_next a.n a.a.now c.rows.i
+          ∙ ap (λ (m : ℕ). factor_columns a.n a.a.now c.rows.i m (factor_rows a.n a.a.now c.rows.i)) (sym z)
+          ∙ c.columns.invariant.4,
+    )
+
+pub returns-after-rows : goal.returns-after-rows
+unfolding cholesky
+returns-after-rows c =
+    let a = c.args in
+    let z : c.rows.i ≡ a.n = omega arith in
+    ap (factor_rows a.n a.a.now) (sym z) ∙ c.rows.invariant.4 ∙ ap (λ t. cond t (lower c.rows.l) none) (sym c.rows.invariant.3)
+
+pub returns-then-not-is_finite : goal.returns-then-not-is_finite
+returns-then-not-is_finite c =
+    let a = c.args in
+    let s = c.loop-k.sum in
+    let p = c.if-i-j.true in
+    let b = ⊎_elim (λ w. not_finite_bad s c.is_finite.ensures w.taken) (λ w. finite_bad s c.is_finite.ensures w.0.left ∙ w.1.taken) c.then-not-is_finite.branch in
+    let e = stop a.n a.a.now c.rows.i c.columns.j (factor_rows a.n a.a.now c.rows.i) c.columns.l s c.columns.invariant.4 (let it : let a = c.args in c.loop-k.sum ≡ reduced a.n a.a.now c.columns.l c.rows.i c.columns.j = let a = c.args in let z : c.loop-k.k ≡ c.columns.j = omega arith in c.loop-k.invariant.2 ∙ ap (sub_terms (at a.n a.a.now c.rows.i c.columns.j) (at a.n c.columns.l c.rows.i) (at a.n c.columns.l c.columns.j)) z in it) p b in
+    stops a.n a.a.now c.rows.i (omega arith) (ap (λ (m : ℕ). factor_columns a.n a.a.now c.rows.i (m + 1) (factor_rows a.n a.a.now c.rows.i)) p ∙ e)
+
+pub overflow_mul-sum : goal.overflow_mul-sum
+overflow_mul-sum c = (let it : let a = c.args in Place (c.rows.i * a.n) c.columns.j (length a.a.now) = omega arith in it).start
+
+pub overflow_add-sum : goal.overflow_add-sum
+overflow_add-sum c = (let it : let a = c.args in Place (c.rows.i * a.n) c.columns.j (length a.a.now) = omega arith in it).index
+
+pub offset_bounds-a-i : goal.offset_bounds-a-i
+offset_bounds-a-i c = (let it : let a = c.args in Place (c.rows.i * a.n) c.columns.j (length a.a.now) = omega arith in it).offset
+
+pub bounds-a-i : goal.bounds-a-i
+bounds-a-i c = (let it : let a = c.args in Place (c.rows.i * a.n) c.columns.j (length a.a.now) = omega arith in it).inside
+
+pub overflow_mul-sum-in-loop-k : goal.overflow_mul-sum-in-loop-k
+overflow_mul-sum-in-loop-k c = (let it : let a = c.args in Place (c.rows.i * a.n) c.loop-k.k (length c.columns.l) = omega arith in it).start
+
+pub overflow_add-sum-in-loop-k : goal.overflow_add-sum-in-loop-k
+overflow_add-sum-in-loop-k c = (let it : let a = c.args in Place (c.rows.i * a.n) c.loop-k.k (length c.columns.l) = omega arith in it).index
+
+pub offset_bounds-l-i : goal.offset_bounds-l-i
+offset_bounds-l-i c = (let it : let a = c.args in Place (c.rows.i * a.n) c.loop-k.k (length c.columns.l) = omega arith in it).offset
+
+pub bounds-l-i : goal.bounds-l-i
+bounds-l-i c = (let it : let a = c.args in Place (c.rows.i * a.n) c.loop-k.k (length c.columns.l) = omega arith in it).inside
+
+pub overflow_mul-sum-in-loop-k-2 : goal.overflow_mul-sum-in-loop-k-2
+overflow_mul-sum-in-loop-k-2 c = (let it : let a = c.args in Place (c.columns.j * a.n) c.loop-k.k (length c.columns.l) = omega arith in it).start
+
+pub overflow_add-sum-in-loop-k-2 : goal.overflow_add-sum-in-loop-k-2
+overflow_add-sum-in-loop-k-2 c = (let it : let a = c.args in Place (c.columns.j * a.n) c.loop-k.k (length c.columns.l) = omega arith in it).index
+
+pub offset_bounds-l-j : goal.offset_bounds-l-j
+offset_bounds-l-j c = (let it : let a = c.args in Place (c.columns.j * a.n) c.loop-k.k (length c.columns.l) = omega arith in it).offset
+
+pub bounds-l-j : goal.bounds-l-j
+bounds-l-j c = (let it : let a = c.args in Place (c.columns.j * a.n) c.loop-k.k (length c.columns.l) = omega arith in it).inside
+
+pub overflow_mul-l : goal.overflow_mul-l
+overflow_mul-l c = (let it : let a = c.args in Place (c.rows.i * a.n) c.columns.j (length c.columns.l) = omega arith in it).start
+
+pub overflow_add-l : goal.overflow_add-l
+overflow_add-l c = (let it : let a = c.args in Place (c.rows.i * a.n) c.columns.j (length c.columns.l) = omega arith in it).index
+
+pub offset_bounds-l-i-then-i-j : goal.offset_bounds-l-i-then-i-j
+offset_bounds-l-i-then-i-j c = (let it : let a = c.args in Place (c.rows.i * a.n) c.columns.j (length c.columns.l) = omega arith in it).offset
+
+pub bounds-l-i-then-i-j : goal.bounds-l-i-then-i-j
+bounds-l-i-then-i-j c = (let it : let a = c.args in Place (c.rows.i * a.n) c.columns.j (length c.columns.l) = omega arith in it).inside
+
+pub overflow_mul-l-else-i-j : goal.overflow_mul-l-else-i-j
+overflow_mul-l-else-i-j c = (let it : let a = c.args in Place (c.columns.j * a.n) c.columns.j (length c.columns.l) = omega arith in it).start
+
+pub overflow_add-l-else-i-j : goal.overflow_add-l-else-i-j
+overflow_add-l-else-i-j c = (let it : let a = c.args in Place (c.columns.j * a.n) c.columns.j (length c.columns.l) = omega arith in it).index
+
+pub offset_bounds-l-j-else-i-j : goal.offset_bounds-l-j-else-i-j
+offset_bounds-l-j-else-i-j c = (let it : let a = c.args in Place (c.columns.j * a.n) c.columns.j (length c.columns.l) = omega arith in it).offset
+
+pub bounds-l-j-else-i-j : goal.bounds-l-j-else-i-j
+bounds-l-j-else-i-j c = (let it : let a = c.args in Place (c.columns.j * a.n) c.columns.j (length c.columns.l) = omega arith in it).inside
+
+pub overflow_mul-l-else-i-j-2 : goal.overflow_mul-l-else-i-j-2
+overflow_mul-l-else-i-j-2 c = (let it : let a = c.args in Place (c.rows.i * a.n) c.columns.j (length c.columns.l) = omega arith in it).start
+
+pub overflow_add-l-else-i-j-2 : goal.overflow_add-l-else-i-j-2
+overflow_add-l-else-i-j-2 c = (let it : let a = c.args in Place (c.rows.i * a.n) c.columns.j (length c.columns.l) = omega arith in it).index
+
+pub offset_bounds-l-i-else-i-j : goal.offset_bounds-l-i-else-i-j
+offset_bounds-l-i-else-i-j c = (let it : let a = c.args in Place (c.rows.i * a.n) c.columns.j (length c.columns.l) = omega arith in it).offset
+
+pub bounds-l-i-else-i-j : goal.bounds-l-i-else-i-j
+bounds-l-i-else-i-j c = (let it : let a = c.args in Place (c.rows.i * a.n) c.columns.j (length c.columns.l) = omega arith in it).inside
