@@ -1,14 +1,13 @@
 -- `bits::fill` meets its contract.
 use mathlib.Core.Path.{◌≡◌, refl, sym, ap, ◌∙◌}
 use mathlib.Core.List.{List, map}
-use Prim.Native.Nat.{ℕ, ◌-◌, ◌≤◌}
+use Prim.Native.Nat.{ℕ}
 use native.Mathlib.Omega.{arith}
-use borrow.Author.Rules.{rules}
-use lib.ListN.{length, get_or, length-set, length-map, get_or-map}
+use lib.ListN.{length, length-set, length-map, get_or-map}
 use lib.Seq.{ext_get_or}
-use lib.Ieee.{Float, binary64, of_bits}
+use lib.Ieee.{binary64, of_bits}
 use Rattle.drifters_matrix.specs.Matrix.{tab}
-use Rattle.drifters_matrix.proofs.Matrix.Tab.{length_tab, get_d_tab, front, front_zero, step_set, step_done}
+use Rattle.drifters_matrix.proofs.Matrix.Tab.{length_tab, get_d_tab, front_zero, step_set, step_done}
 use Rattle.little_endian.specs.Bits.{numbers_of}
 use Rattle.little_endian.proofs.bits.fill.Invariants.{number_at}
 use Rattle.little_endian.proofs.bits.fill.Goals as goal
@@ -23,7 +22,7 @@ numbers-tab bits =
 pub loop-i-preserved : goal.loop-i-preserved
 loop-i-preserved c =
     let l = c.loop-i in
-    (omega arith, simp length-set l.invariant.1, step_set l.i _ _ l.invariant.2 (omega arith) c.number_of_lem.ensures)
+    (omega arith, simp length-set l.invariant.1, step_set l.i _ _ l.invariant.2 (omega arith) c.number_of.ensures)
 
 pub returns : goal.returns
 returns c =

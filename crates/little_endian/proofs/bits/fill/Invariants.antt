@@ -1,15 +1,10 @@
 -- `bits::fill` meets its contract.
-use mathlib.Core.Path.{◌≡◌, refl, sym, ap, ◌∙◌}
-use mathlib.Core.List.{List, map}
+use mathlib.Core.Path.{◌≡◌}
+use mathlib.Core.List.{List}
 use Prim.Native.Nat.{ℕ, ◌-◌, ◌≤◌}
-use native.Mathlib.Omega.{arith}
-use borrow.Author.Rules.{rules}
-use lib.ListN.{length, get_or, length-set, length-map, get_or-map}
-use lib.Seq.{ext_get_or}
+use lib.ListN.{length, get_or}
 use lib.Ieee.{Float, binary64, of_bits}
-use Rattle.drifters_matrix.specs.Matrix.{tab}
-use Rattle.drifters_matrix.proofs.Matrix.Tab.{length_tab, get_d_tab, front, front_zero, step_set, step_done}
-use Rattle.little_endian.specs.Bits.{numbers_of}
+use Rattle.drifters_matrix.proofs.Matrix.Tab.{front}
 use Rattle.little_endian.proofs.bits.fill.Given as goal
 
 -- the number of the pattern at a place

@@ -1,5 +1,4 @@
 -- `bits::numbers_of` meets its contract.
-use borrow.Author.Rules.{rules}
 use borrow.Author.Tests.{eq-eqb, ne_eqb}
 use Rattle.little_endian.specs.Bits.{with_numbers}
 use Rattle.little_endian.proofs.bits.numbers_of.Goals as goal

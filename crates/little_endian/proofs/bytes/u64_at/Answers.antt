@@ -1,7 +1,6 @@
 -- `bytes::u64_at` meets its contract.
 use mathlib.Core.Path.{ap, ◌∙◌}
 use native.Mathlib.Nat.{add-zero}
-use borrow.Author.Rules.{rules}
 use Rattle.little_endian.specs.Bytes.{u64_at}
 use Rattle.little_endian.proofs.bytes.u64_at.Goals as goal
 

@@ -2,7 +2,6 @@
 use Prim.Native.Nat.{◌+◌, ◌*◌}
 use mathlib.Core.Path.{◌≡◌, ap, ◌∙◌}
 use native.Mathlib.Omega.{arith}
-use borrow.Author.Rules.{rules}
 use Rattle.little_endian.specs.Bytes.{u32_at}
 use Rattle.little_endian.proofs.bytes.u64_past.Goals as goal
 

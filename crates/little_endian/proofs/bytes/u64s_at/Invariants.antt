@@ -1,11 +1,10 @@
 -- `bytes::u64s_at` meets its contract.
-use mathlib.Core.Path.{◌≡◌, refl, sym}
+use mathlib.Core.Path.{◌≡◌}
 use mathlib.Core.List.{List}
 use Prim.Native.Nat.{ℕ, ◌+◌, ◌*◌, ◌-◌, ◌≤◌}
-use native.Mathlib.Omega.{arith}
-use lib.ListN.{length, length-set}
-use Rattle.drifters_matrix.proofs.Matrix.Tab.{front, front_zero, step_set, step_done}
-use Rattle.little_endian.specs.Bytes.{u64_at, u64s_at}
+use lib.ListN.{length}
+use Rattle.drifters_matrix.proofs.Matrix.Tab.{front}
+use Rattle.little_endian.specs.Bytes.{u64_at}
 use Rattle.little_endian.proofs.bytes.u64s_at.Given as goal
 
 -- the u64 for place k
