@@ -1,9 +1,7 @@
 -- `back_in` meets its contract: the loop keeps the rows below row i. Assumes nothing.
-use mathlib.Core.Path.{◌≡◌, refl, sym, ap, ◌∙◌}
-use Prim.Native.Nat.{ℕ, ◌+◌, ◌*◌, ◌-◌, ◌≤◌}
+use mathlib.Core.Path.{◌≡◌, refl, ap, ◌∙◌}
 use native.Mathlib.Omega.{arith}
 use borrow.Author.Rules.{rules}
-use lib.ListN.{length}
 use Rattle.drifters_cholesky.specs.Cholesky.{back}
 use Rattle.drifters_matrix.proofs.Matrix.Grid.{row_in}
 use Rattle.drifters_cholesky.proofs.Substitution.{back_next}

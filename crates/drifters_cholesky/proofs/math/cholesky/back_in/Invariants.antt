@@ -1,12 +1,8 @@
 -- `back_in` meets its contract: the loop keeps the rows below row i. Assumes nothing.
-use mathlib.Core.Path.{◌≡◌, refl, sym, ap, ◌∙◌}
-use Prim.Native.Nat.{ℕ, ◌+◌, ◌*◌, ◌-◌, ◌≤◌}
-use native.Mathlib.Omega.{arith}
-use borrow.Author.Rules.{rules}
+use mathlib.Core.Path.{◌≡◌}
+use Prim.Native.Nat.{◌*◌, ◌-◌, ◌≤◌}
 use lib.ListN.{length}
 use Rattle.drifters_cholesky.specs.Cholesky.{back}
-use Rattle.drifters_matrix.proofs.Matrix.Grid.{row_in}
-use Rattle.drifters_cholesky.proofs.Substitution.{back_next}
 use Rattle.drifters_cholesky.proofs.math.cholesky.back_in.Given as goal
 
 abbrev pub invariant-loop-p : goal.invariant-loop-p

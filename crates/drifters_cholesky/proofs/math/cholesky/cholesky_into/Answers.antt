@@ -1,18 +1,18 @@
 -- `cholesky_into` meets its contract. The loops keep the factor's entries before the one that is made. Assumes nothing.
 use mathlib.Core.Path.{◌≡◌, refl, sym, ap, ◌∙◌}
 use mathlib.Core.Bool.{true, cond}
-use mathlib.Core.Logic.{⊎_elim}
-use Prim.Native.Nat.{ℕ, ◌+◌, ◌*◌, ◌-◌, ◌≤◌}
+use Prim.Native.Nat.{ℕ, ◌+◌, ◌*◌}
 use native.Mathlib.Omega.{arith}
-use borrow.Author.Rules.{rules}
 use lib.ListN.{length, set, length-set, length-replicate}
 use Rattle.drifters_matrix.specs.Matrix.{at}
-use Rattle.drifters_cholesky.specs.Cholesky.{none, lower, cholesky, factor_rows, factor_columns, sub_terms, reduced}
+use Rattle.drifters_cholesky.specs.Cholesky.{none, lower, cholesky, bad_pivot, factor_rows, factor_columns, sub_terms, reduced}
 use Rattle.drifters_matrix.proofs.Matrix.Place.{Place}
 use Rattle.drifters_matrix.proofs.Matrix.Grid.{row_in}
 use Rattle.drifters_cholesky.proofs.SubTerms.{sub_step}
 use Rattle.drifters_cholesky.proofs.Factor.{not_finite_bad, finite_bad, stop, pivot, quotient, factor_rows_next, stops}
 use Rattle.drifters_cholesky.proofs.math.cholesky.cholesky_into.Goals as goal
+use Rattle.drifters_cholesky.proofs.math.cholesky.cholesky_into.Goals.{then-i-j+else-not-is_finite+else-sum, else-i-j, then-not-is_finite-via-then-not-is_finite, then-not-is_finite-via-else-not-is_finite+then-sum}
+use Rattle.std.proofs.Common.{not, true}
 
 pub rows-init : goal.rows-init
 unfolding factor_rows
@@ -44,17 +44,24 @@ columns-preserved c =
     let a = c.args in
     let s = c.loop-k.sum in
     let e = c.columns.invariant.4 in
+    let z : c.loop-k.k ≡ c.columns.j = omega arith in
+    let whole : c.loop-k.sum ≡ reduced a.n a.a.now c.columns.l c.rows.i c.columns.j =
+    c.loop-k.invariant.2 ∙ ap (sub_terms (at a.n a.a.now c.rows.i c.columns.j) (at a.n c.columns.l c.rows.i) (at a.n c.columns.l c.columns.j)) z in
     let f = factor_rows a.n a.a.now c.rows.i in
     let x : (length c.if-i-j.l ≡ a.n * a.n) × (factor_columns a.n a.a.now c.rows.i (c.columns.j + 1) f ≡ lower c.if-i-j.l) =
-    ⊎_elim
-    (λ w. (
-      ap length w.5 ∙ simp length-set c.columns.invariant.2,
-      pivot a.n a.a.now c.rows.i c.columns.j f c.columns.l s e (let it : let a = c.args in c.loop-k.sum ≡ reduced a.n a.a.now c.columns.l c.rows.i c.columns.j = let a = c.args in let z : c.loop-k.k ≡ c.columns.j = omega arith in c.loop-k.invariant.2 ∙ ap (sub_terms (at a.n a.a.now c.rows.i c.columns.j) (at a.n c.columns.l c.rows.i) (at a.n c.columns.l c.columns.j)) z in it) w.0.taken (finite_bad s w.1.ensures w.2.left ∙ w.3.left)
-          ∙ ap (λ v. lower (set c.columns.l (c.rows.i * a.n + c.columns.j) v)) (sym w.4.ensures)
-          ∙ ap lower (sym w.5),
-    ))
-    (λ w. (ap length w.2 ∙ simp length-set c.columns.invariant.2, quotient a.n a.a.now c.rows.i c.columns.j f c.columns.l s e (let it : let a = c.args in c.loop-k.sum ≡ reduced a.n a.a.now c.columns.l c.rows.i c.columns.j = let a = c.args in let z : c.loop-k.k ≡ c.columns.j = omega arith in c.loop-k.invariant.2 ∙ ap (sub_terms (at a.n a.a.now c.rows.i c.columns.j) (at a.n c.columns.l c.rows.i) (at a.n c.columns.l c.columns.j)) z in it) w.0.left ∙ ap lower (sym w.2)))
-    c.if-i-j.branch in
+    elim c.if-i-j.branch [
+      | then-i-j+else-not-is_finite+else-sum w ↦ (
+        ap length w.l-is ∙ simp length-set c.columns.invariant.2,
+        pivot a.n a.a.now c.rows.i c.columns.j f c.columns.l s e whole w.if-i-j.true
+            (finite_bad s w.is_finite.ensures (ap not w.if-not-is_finite.false) ∙ w.if-sum.false)
+            ∙ ap (λ v. lower (set c.columns.l (c.rows.i * a.n + c.columns.j) v)) (sym w.sqrt.ensures)
+            ∙ ap lower (sym w.l-is),
+      )
+      | else-i-j w ↦ (
+        ap length w.l-is ∙ simp length-set c.columns.invariant.2,
+        quotient a.n a.a.now c.rows.i c.columns.j f c.columns.l s e whole w.if-i-j.false ∙ ap lower (sym w.l-is),
+      )
+    ] in
     (omega arith, c.columns.invariant.1, x.0, c.columns.invariant.3, x.1)
 
 pub rows-preserved : goal.rows-preserved
@@ -82,8 +89,14 @@ returns-then-not-is_finite c =
     let a = c.args in
     let s = c.loop-k.sum in
     let p = c.if-i-j.true in
-    let b = ⊎_elim (λ w. not_finite_bad s c.is_finite.ensures w.taken) (λ w. finite_bad s c.is_finite.ensures w.0.left ∙ w.1.taken) c.then-not-is_finite.branch in
-    let e = stop a.n a.a.now c.rows.i c.columns.j (factor_rows a.n a.a.now c.rows.i) c.columns.l s c.columns.invariant.4 (let it : let a = c.args in c.loop-k.sum ≡ reduced a.n a.a.now c.columns.l c.rows.i c.columns.j = let a = c.args in let z : c.loop-k.k ≡ c.columns.j = omega arith in c.loop-k.invariant.2 ∙ ap (sub_terms (at a.n a.a.now c.rows.i c.columns.j) (at a.n c.columns.l c.rows.i) (at a.n c.columns.l c.columns.j)) z in it) p b in
+    let z : c.loop-k.k ≡ c.columns.j = omega arith in
+    let whole : c.loop-k.sum ≡ reduced a.n a.a.now c.columns.l c.rows.i c.columns.j =
+    c.loop-k.invariant.2 ∙ ap (sub_terms (at a.n a.a.now c.rows.i c.columns.j) (at a.n c.columns.l c.rows.i) (at a.n c.columns.l c.columns.j)) z in
+    let b : bad_pivot s ≡ true = elim c.then-not-is_finite.branch [
+      | then-not-is_finite-via-then-not-is_finite w ↦ not_finite_bad s c.is_finite.ensures (ap not w.if-not-is_finite.true)
+      | then-not-is_finite-via-else-not-is_finite+then-sum w ↦ finite_bad s c.is_finite.ensures (ap not w.if-not-is_finite.false) ∙ w.if-sum.true
+    ] in
+    let e = stop a.n a.a.now c.rows.i c.columns.j (factor_rows a.n a.a.now c.rows.i) c.columns.l s c.columns.invariant.4 whole p b in
     stops a.n a.a.now c.rows.i (omega arith) (ap (λ (m : ℕ). factor_columns a.n a.a.now c.rows.i (m + 1) (factor_rows a.n a.a.now c.rows.i)) p ∙ e)
 
 pub overflow_mul-sum : goal.overflow_mul-sum

@@ -1,17 +1,10 @@
 -- `cholesky_into` meets its contract. The loops keep the factor's entries before the one that is made. Assumes nothing.
-use mathlib.Core.Path.{◌≡◌, refl, sym, ap, ◌∙◌}
-use mathlib.Core.Bool.{true, cond}
-use mathlib.Core.Logic.{⊎_elim}
-use Prim.Native.Nat.{ℕ, ◌+◌, ◌*◌, ◌-◌, ◌≤◌}
-use native.Mathlib.Omega.{arith}
-use borrow.Author.Rules.{rules}
-use lib.ListN.{length, set, length-set, length-replicate}
+use mathlib.Core.Path.{◌≡◌}
+use mathlib.Core.Bool.{true}
+use Prim.Native.Nat.{◌+◌, ◌*◌, ◌-◌, ◌≤◌}
+use lib.ListN.{length}
 use Rattle.drifters_matrix.specs.Matrix.{at}
-use Rattle.drifters_cholesky.specs.Cholesky.{none, lower, cholesky, factor_rows, factor_columns, sub_terms, reduced}
-use Rattle.drifters_matrix.proofs.Matrix.Place.{Place}
-use Rattle.drifters_matrix.proofs.Matrix.Grid.{row_in}
-use Rattle.drifters_cholesky.proofs.SubTerms.{sub_step}
-use Rattle.drifters_cholesky.proofs.Factor.{not_finite_bad, finite_bad, stop, pivot, quotient, factor_rows_next, stops}
+use Rattle.drifters_cholesky.specs.Cholesky.{lower, factor_rows, factor_columns, sub_terms}
 use Rattle.drifters_cholesky.proofs.math.cholesky.cholesky_into.Given as goal
 
 abbrev pub invariant-loop-k : goal.invariant-loop-k

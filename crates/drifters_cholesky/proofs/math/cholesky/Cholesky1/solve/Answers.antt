@@ -1,5 +1,4 @@
 -- `Cholesky1::solve` meets its contract.
-use borrow.Author.Rules.{rules}
 use Rattle.drifters_cholesky.proofs.Substitution.{solved}
 use Rattle.drifters_cholesky.proofs.math.cholesky.Cholesky1.solve.Goals as goal
 

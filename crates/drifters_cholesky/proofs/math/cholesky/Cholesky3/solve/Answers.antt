@@ -1,5 +1,4 @@
 -- `Cholesky3::solve` meets its contract.
-use borrow.Author.Rules.{rules}
 use Rattle.drifters_cholesky.proofs.Substitution.{solved}
 use Rattle.drifters_cholesky.proofs.math.cholesky.Cholesky3.solve.Goals as goal
 
