@@ -10,13 +10,8 @@ use Rattle.drifters_matrix.specs.Matrix.{matmul, scaled, identity, add_matrix}
 use Rattle.drifters_lie.specs.Lie.{adjoint_se3, exp_se3}
 use Rattle.drifters_adjoint.specs.Adjoint.{doubled, scaled_se3}
 use Rattle.drifters_lie.specs.declared.lie.Se3Tangent.{Se3Tangent}
-use Rattle.drifters_adjoint.proofs.adjoint.double.Statement.{statement}
-use Rattle.drifters_adjoint.proofs.adjoint.double.Tie as tie
-
--- after i of the n doublings of w and psi, v and out are left to double
-record Doubling (n : ℕ) (w : Se3Tangent) (psi : List Float) (i : ℕ) (v : Se3Tangent) (out : List Float) : Type 0 where
-  bound : i ≤ n
-  value : doubled n w psi ≡ doubled (n - i) v out
+use Rattle.drifters_adjoint.proofs.adjoint.double.Invariants.{Doubling}
+use Rattle.drifters_adjoint.proofs.adjoint.double.Goals as goal
 
 -- one doubling of psi, over w
 abbrev doubled_once : Se3Tangent → List Float → List Float
@@ -48,47 +43,19 @@ done {n} {i} {w} {v} {psi} {out} h b =
     let none : n - i ≡ 0 = omega arith in
     sym (h.value ∙ rw none (doubled-zero v out))
 
-abbrev invariant-loop : tie.invariant-loop
-invariant-loop n v₀ out₀ counter₀ v out counter = Doubling n v₀ out₀.«data» counter v out.«data»
+pub loop-preserved : goal.loop-preserved
+loop-preserved c =
+    let a = c.adjoint.ensures ∙ ap adjoint_se3 c.exp.ensures in
+    let s = c.add.ensures ∙ (λ i. add_matrix 36 (c.identity.ensures i) (a i)) in
+    let p = c.matmul.ensures ∙ (λ i. matmul 6 6 6 (s i) c.loop.out.«data») in
+    let twice = c.new-v.ensures ∙ (λ i. record { omega = c.mul.ensures i; nu = c.mul-in-loop.ensures i }) in
+    next c.loop.invariant (omega arith) twice (c.scaled-out.ensures ∙ (λ i. scaled 36 (p i) half))
 
-abbrev decreases-loop : tie.decreases-loop
-decreases-loop n v₀ out₀ counter₀ v out counter = n - counter
+pub returns : goal.returns
+returns c = done c.loop.invariant (omega arith)
 
-loop-again : tie.Need-loop-preserved invariant-loop decreases-loop
-loop-again c =
-    let once = c.before.before.before in
-    let product = once.before in
-    let sum = product.before in
-    let adjoint = sum.before in
-    let exp = adjoint.before in
-    let ones = exp.before in
-    let L = ones.before.before in
-    let a = adjoint.adjoint.ensures ∙ ap adjoint_se3 exp.exp.ensures in
-    let s = sum.add.ensures ∙ (λ i. add_matrix 36 (ones.identity.ensures i) (a i)) in
-    let p = product.matmul.ensures ∙ (λ i. matmul 6 6 6 (s i) L.loop.out.«data») in
-    let twice = c.new.ensures ∙ (λ i. record { omega = c.before.before.mul.ensures i; nu = c.before.mul2.ensures i }) in
-    next L.loop.invariant (omega arith) twice (once.scaled.ensures ∙ (λ i. scaled 36 (p i) half))
+pub loop-init : goal.loop-init
+loop-init c = start _ _ _
 
-returns : tie.Need-returns invariant-loop decreases-loop
-returns c = done c.before.loop.invariant (omega arith)
-
-pub double-spec : {M : Type 1} → statement M
-double-spec =
-    tie.close
-    (tie.spec
-    invariant-loop
-    decreases-loop
-    (λ c. start _ _ _)
-    (λ c κs. tt)
-    (λ c κs. tt)
-    (λ c κs. tt)
-    (λ c κs. tt)
-    (λ c κs. tt)
-    (λ c κs. tt)
-    (λ c κs. tt)
-    (λ c κs. tt)
-    (λ c κs. tt)
-    (λ c. omega (arith, c.before.before.before.before.before.before.before.before.before.before.before.ranges))
-    (λ c. omega arith)
-    loop-again
-    returns)
+pub overflow_step : goal.overflow_step
+overflow_step c = omega (arith, c.ranges)

@@ -1,0 +1,16 @@
+-- `series::sum_series` meets its contract.
+use mathlib.Core.Path.{◌∙◌, ap}
+use mathlib.Core.List.{List}
+use lib.Ieee.{Float}
+use Rattle.drifters_adjoint.specs.Adjoint.{series}
+use Rattle.drifters_adjoint.proofs.SeriesLaws.Blocks.{series_whole}
+use Rattle.drifters_adjoint.proofs.series.sum_series.Goals as goal
+
+-- by blocks
+pub returns-then-all_finite : goal.returns-then-all_finite
+returns-then-all_finite c =
+    series_whole c.args.w c.ad-m.ensures c.series-psi.ensures c.all_finite.ensures c.all_finite-2.ensures c.if-all_finite.true c.whole.ensures
+
+-- the general way
+pub returns : goal.returns
+returns c = c.matrix_series.ensures ∙ ap (λ (l : List Float). series l 15) c.ad.ensures
