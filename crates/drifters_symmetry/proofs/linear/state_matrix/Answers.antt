@@ -15,8 +15,7 @@ use Rattle.drifters_lie.specs.declared.lie.Se23Tangent.{Se23Tangent}
 use Rattle.drifters_lie.specs.declared.lie.Se3Tangent.{Se3Tangent}
 use Rattle.drifters_symmetry.specs.declared.group.Symmetry.{Symmetry}
 use Rattle.drifters_symmetry.specs.declared.lift.Input.{Input}
-use Rattle.drifters_symmetry.proofs.linear.state_matrix.Statement.{statement}
-use Rattle.drifters_symmetry.proofs.linear.state_matrix.Tie as tie
+use Rattle.drifters_symmetry.proofs.linear.state_matrix.Goals as goal
 
 -- a b by b block is set
 placed : (b r0 c0 : ℕ) {o m n s t : List Float} → o ≡ set_block 21 21 b b r0 c0 m s → m ≡ n → s ≡ t → o ≡ set_block 21 21 b b r0 c0 n t
@@ -42,43 +41,25 @@ rates : (x : Symmetry) (u : Input) {a s : Mat3} {p q : Vec3} →
 rates x u e f h k = cc
 
 -- c1 to c9 are the places after each block is set, and m1 to m9 what the matrix is there
-returns : tie.Need-returns
+pub returns : goal.returns
 unfolding state_matrix
 returns c =
-    let c9 = c.before.before in
-    let c8 = c9.before.before in
-    let c7 = c8.before in
-    let c6 = c7.before.before.before.before.before in
-    let c5 = c6.before.before.before.before.before.before.before.before in
-    let c4 = c5.before.before in
-    let c3 = c4.before.before in
-    let c2 = c3.before.before in
-    let c1 = c2.before.before in
-    let start = c1.before.before.before.args in
-    let m1 = placed 3 velocity_offset attitude_offset c1.set-block.ensures c1.before.before.zeros.ensures (entries c1.before.skew.ensures) in
-    let m2 = placed 3 position_offset velocity_offset c2.set-block2.ensures m1 c2.before.identity.ensures in
-    let m3 = placed 3 attitude_offset gyro_bias_offset c3.set-block3.ensures m2 c3.before.identity2.ensures in
-    let m4 = placed 3 velocity_offset accel_bias_offset c4.set-block4.ensures m3 c4.before.identity3.ensures in
-    let m5 = placed 3 position_offset gyro_bias_offset c5.set-block5.ensures m4 (entries c5.before.skew2.ensures) in
-    let a = c6.before.before.before.before in
+    let start = c.args in
+    let m1 = placed 3 velocity_offset attitude_offset c.set_block-m.ensures c.zeros-m.ensures (entries c.skew.ensures) in
+    let m2 = placed 3 position_offset velocity_offset c.set_block-m-2.ensures m1 c.identity.ensures in
+    let m3 = placed 3 attitude_offset gyro_bias_offset c.set_block-m-3.ensures m2 c.identity-2.ensures in
+    let m4 = placed 3 velocity_offset accel_bias_offset c.set_block-m-4.ensures m3 c.identity-3.ensures in
+    let m5 = placed 3 position_offset gyro_bias_offset c.set_block-m-5.ensures m4 (entries c.skew-2.ensures) in
     let b =
     biases start.x start.u start.gravity
-    a.before.before.before.new.ensures a.before.before.new2.ensures a.before.adjoint-apply.ensures
-    a.add.ensures c6.before.before.before.pi.ensures c6.before.before.add2.ensures c6.before.ad.ensures in
-    let m6 = placed 6 gyro_bias_offset gyro_bias_offset c6.set-block6.ensures m5 b in
+    c.new-w.ensures c.new-g.ensures c.adjoint_apply.ensures
+    c.add.ensures c.pi.ensures c.add-2.ensures c.ad.ensures in
+    let m6 = placed 6 gyro_bias_offset gyro_bias_offset c.set_block6-m.ensures m5 b in
     let a3 =
     rates start.x start.u
-    c7.before.before.before.before.a.ensures c7.before.before.before.mul-vec3.ensures
-    c7.before.before.add3.ensures c7.before.skew3.ensures in
-    let m7 = placed 3 lever_offset lever_offset c7.set-block7.ensures m6 (entries a3) in
-    let m8 = placed 3 mag_offset mag_offset c8.set-block8.ensures m7 (entries a3) in
-    let m9 = placed 3 mag_offset attitude_offset c9.set-block9.ensures m8 (negated c9.before.neg.ensures a3) in
-    placed 3 mag_offset gyro_bias_offset c.set-block10.ensures m9 c.before.identity4.ensures
-
-pub state-matrix-spec : {M : Type 1} → statement M
-state-matrix-spec =
-    tie.close
-    (tie.spec (λ c κs. tt) (λ c κs. tt) (λ c κs. tt) (λ c κs. tt) (λ c κs. tt) (λ c κs. tt) (λ c κs. tt) (λ c κs. tt)
-    (λ c κs. tt) (λ c κs. tt) (λ c κs. tt) (λ c κs. tt) (λ c κs. tt) (λ c κs. tt) (λ c κs. tt) (λ c κs. tt) (λ c κs. tt)
-    (λ c κs. tt) (λ c κs. tt) (λ c κs. tt) (λ c κs. tt) (λ c κs. tt) (λ c κs. tt) (λ c κs. tt) (λ c κs. tt) (λ c κs. tt)
-    (λ c κs. tt) (λ c κs. tt) (λ c κs. tt) returns)
+    c.a.ensures c.mul_vec3.ensures
+    c.add-3.ensures c.skew-a3.ensures in
+    let m7 = placed 3 lever_offset lever_offset c.set_block-m-6.ensures m6 (entries a3) in
+    let m8 = placed 3 mag_offset mag_offset c.set_block-m-7.ensures m7 (entries a3) in
+    let m9 = placed 3 mag_offset attitude_offset c.set_block-m-8.ensures m8 (negated c.neg.ensures a3) in
+    placed 3 mag_offset gyro_bias_offset c.set_block.ensures m9 c.identity-4.ensures

@@ -1,0 +1,24 @@
+-- `Algebra::ad` meets its contract.
+use mathlib.Core.Path.{◌≡◌, ◌∙◌}
+use native.Mathlib.Omega.{arith}
+use Rattle.drifters_matrix.proofs.Matrix.ByColumns.{no_columns, next_column, all_columns}
+use Rattle.drifters_symmetry.specs.Group.{ad}
+use Rattle.drifters_symmetry.proofs.group.Algebra.ad.Invariants.{column}
+use Rattle.drifters_symmetry.proofs.group.Algebra.ad.Goals as goal
+
+pub loop-k-init : goal.loop-k-init
+loop-k-init c = (omega arith, no_columns 21 21 (column c.args.self))
+
+pub loop-k-preserved : goal.loop-k-preserved
+loop-k-preserved c =
+    let k = c.loop-k.k in
+    let cols = column c.args.self in
+    let set = rw (c.loop-k.invariant.1, c.bracket_unit.ensures) at c.set_column21.ensures in
+    (omega arith, set ∙ next_column 21 21 k cols (omega arith))
+
+pub returns : goal.returns
+unfolding ad
+returns c =
+    let done : c.loop-k.k ≡ 21 = omega arith in
+    let cols = column c.args.self in
+    c.loop-k.invariant.1 ∙ rw done (all_columns 21 21 cols)
