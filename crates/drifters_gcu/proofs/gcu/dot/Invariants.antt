@@ -1,15 +1,10 @@
 -- `gcu::dot` meets its contract: after i terms it holds their sum.
-use mathlib.Core.Path.{◌≡◌, refl, sym, ap, ◌∙◌}
+use mathlib.Core.Path.{◌≡◌}
 use mathlib.Core.Bool.{false}
-use mathlib.Core.Logic.{inl}
-use Prim.Native.Nat.{ℕ, ◌+◌, ◌-◌, ◌≤◌}
-use native.Mathlib.Omega.{arith}
-use lib.Ieee.{Float, nan}
+use Prim.Native.Nat.{◌-◌, ◌≤◌}
+use lib.Ieee.{nan}
 use lib.ListN.{length, get_or}
-use Rattle.drifters_real.specs.Scalar.{◌⊕◌, ◌⊗◌}
 use Rattle.drifters_matrix.specs.Matrix.{sum_terms}
-use Rattle.drifters_matrix.proofs.Matrix.Sums.{sum_add}
-use Rattle.drifters_gcu.specs.Gcu.{dot_vector}
 use Rattle.drifters_gcu.proofs.gcu.dot.Given as goal
 
 abbrev pub invariant-loop-i : goal.invariant-loop-i

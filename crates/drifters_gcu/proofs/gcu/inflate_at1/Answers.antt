@@ -1,5 +1,4 @@
 -- `gcu::inflate_at1` meets its contract.
-use borrow.Author.Rules.{rules}
 use Rattle.drifters_gcu.specs.Gcu.{inflated_by}
 use Rattle.drifters_gcu.proofs.gcu.inflate_at1.Goals as goal
 

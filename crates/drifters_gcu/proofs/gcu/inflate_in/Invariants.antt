@@ -1,14 +1,10 @@
 -- `gcu::inflate_in` meets its contract: before round k, the first k entries are inflated.
 use mathlib.Core.List.{List}
-use mathlib.Core.Path.{◌≡◌, sym, ap, ap₂, ◌∙◌}
 use Prim.Native.Nat.{ℕ, ◌-◌}
-use native.Mathlib.Omega.{arith}
 use lib.Ieee.{Float, nan}
 use lib.ListN.{get_or}
 use Rattle.drifters_real.specs.Scalar.{◌⊕◌, ◌⊗◌}
-use Rattle.drifters_matrix.specs.Matrix.{scaled, add_matrix}
-use Rattle.drifters_matrix.proofs.Matrix.Tab.{tab_ext, get_d_tab}
-use Rattle.drifters_matrix.proofs.Matrix.Elements.{Mapped, mapped_none, mapped_set, mapped_done}
+use Rattle.drifters_matrix.proofs.Matrix.Elements.{Mapped}
 use Rattle.drifters_gcu.proofs.gcu.inflate_in.Given as goal
 
 -- entry k from x

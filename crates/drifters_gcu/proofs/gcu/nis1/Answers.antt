@@ -1,5 +1,4 @@
 -- `gcu::nis1` meets its contract.
-use borrow.Author.Rules.{rules}
 use Rattle.drifters_gcu.specs.Gcu.{nis}
 use Rattle.drifters_gcu.proofs.gcu.nis1.Goals as goal
 
