@@ -1,6 +1,7 @@
 // Makes one call of each kind on a filter, one refusal of each number that a call can give, and each refusal of a scalar update, and prints the
 // answers.
 #![tactic(auto)]
+
 use call_sheet::text::answer_text;
 use drifters_entry::entry;
 use drifters_entry::entry::{FILTER_LENGTH, START_LENGTH};

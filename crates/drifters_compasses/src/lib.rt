@@ -1,3 +1,4 @@
 // One update by the best of several compasses' readings.
 #![tactic(auto)]
+
 pub mod compasses;

@@ -1,4 +1,5 @@
 // The entries: the calls on a filter that is lent as a run of numbers.
 #![tactic(auto)]
+
 pub mod entry;
 mod layout;

@@ -1,6 +1,7 @@
 // The filter's calls, call sheets, sine, cosine and square root, for C and Rust to call. Runs of any length come in. A function answers 0 or
 // the number of its refusal, and a refusal changes no lent run. include/drifters_eqf.h declares them.
 #![tactic(auto)]
+
 ghost use Rattle.std.specs.Prelude.{◌≡◌, [], length};
 ghost use Rattle.drifters_real.specs.Real.{sqrt};
 ghost use Rattle.drifters_eqf.specs.Answer.{number_of};

@@ -1,6 +1,7 @@
 // The leaves, exported for the comparison with the original only: each function takes every number, and writes only what it is lent.
 // drifters_eqf_c exports what a product calls.
 #![tactic(auto)]
+
 ghost use Rattle.std.specs.Prelude.{◌≡◌, cond};
 ghost use Rattle.drifters_core.specs.Vec3.{from_array, to_array, normalized, amax_vec3};
 ghost use Rattle.drifters_core.specs.declared.math.vec3.Normalized.TheVariants.{Unit, None};

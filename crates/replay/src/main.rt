@@ -1,5 +1,6 @@
 // Replays calls whose answers by the original are stored, and prints how many differ; then the readings of lengths and of sheets' texts.
 #![tactic(auto)]
+
 mod calls;
 mod files;
 mod readings;

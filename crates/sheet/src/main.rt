@@ -1,5 +1,6 @@
 // Runs the call sheet in the file sheet.bin of the current folder and prints the index, kind and answer of each call.
 #![tactic(auto)]
+
 use call_sheet::run::{MOST_TEXT, sheet_text};
 use call_sheet::sheet::MOST_BYTES;
 use libc::STDOUT_FILENO;

@@ -1,5 +1,6 @@
 // Runs call sheets with every kind of call and at the edges of the layout, and prints what each is and its text.
 #![tactic(auto)]
+
 ghost use Rattle.std.specs.Prelude.{◌+◌, ◌≤◌, ◌<◌};
 
 use call_sheet::run::{MOST_TEXT, run_sheet, sheet_text};

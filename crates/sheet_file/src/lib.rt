@@ -1,5 +1,6 @@
 // Reads a whole file into a lent run of bytes.
 #![tactic(auto)]
+
 ghost use Rattle.std.specs.Prelude.{◌≡◌};
 ghost use Rattle.io.specs.Counts.{IsPrefixLen};
 ghost use Rattle.sheet_file.specs.Counted.{counted};
