@@ -1,0 +1,11 @@
+-- `entry::filter_call` meets its contract.
+use mathlib.Core.Path.{◌≡◌}
+use mathlib.Core.List.{[]}
+use borrow.Author.Rules.{rules}
+use Rattle.drifters_entry.proofs.Calls.{no_numbers}
+use Rattle.drifters_entry.proofs.entry.filter_call.Goals as goal
+
+pub returns : goal.returns
+returns c =
+    let empty : c.call.new.run.1.1.0 ≡ [] = no_numbers c.call.new.run.1.1.0 c.none-2-1.given in
+    rw empty at c.call.ensures

@@ -1,0 +1,6 @@
+-- `entry::propagate` meets its contract.
+use borrow.Author.Rules.{rules}
+use Rattle.drifters_entry.proofs.entry.propagate.Goals as goal
+
+pub returns : goal.returns
+returns c = c.filter_call.ensures

@@ -1,0 +1,6 @@
+-- `entry::update_direction` meets its contract.
+use borrow.Author.Rules.{rules}
+use Rattle.drifters_entry.proofs.entry.update_direction.Goals as goal
+
+pub returns : goal.returns
+returns c = c.filter_call.ensures

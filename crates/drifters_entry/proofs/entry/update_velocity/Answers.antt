@@ -1,0 +1,6 @@
+-- `entry::update_velocity` meets its contract.
+use borrow.Author.Rules.{rules}
+use Rattle.drifters_entry.proofs.entry.update_velocity.Goals as goal
+
+pub returns : goal.returns
+returns c = c.filter_call.ensures

@@ -1,0 +1,27 @@
+-- `layout::filter_is_finite` meets its contract.
+use mathlib.Core.Path.{◌≡◌}
+use mathlib.Core.Bool.{Bool, ◌&&◌}
+use mathlib.Core.List.{◌++◌}
+use borrow.Author.Rules.{rules}
+use Rattle.drifters_real.specs.Real.{is_finite}
+use Rattle.drifters_matrix.specs.Matrix.{all_finite}
+use Rattle.drifters_core.specs.Vec3.{to_array, finite_vec3}
+use Rattle.drifters_lie.specs.Lie.{to_array_se3}
+use Rattle.drifters_eqf.specs.Filter.{filter_of}
+use Rattle.drifters_entry.specs.Layout.{pose_numbers, to_run}
+use Rattle.drifters_eqf.specs.declared.filter.EqFilter.{EqFilter}
+use Rattle.drifters_entry.proofs.Parts.{all_finite_append, all_finite_vec3, all_finite_one}
+use Rattle.drifters_entry.proofs.layout.filter_is_finite.Goals as goal
+
+-- the parts one by one, those of the group element taken together
+finite-filter : (f : EqFilter) {a b d e : Bool} →
+    a ≡ all_finite (pose_numbers f.x.c ++ to_array_se3 f.x.gamma ++ to_array f.x.delta ++ f.x.e.«data») → b ≡ all_finite f.sigma.«data» →
+    d ≡ finite_vec3 f.gravity → e ≡ is_finite f.alpha → a && b && d && e ≡ all_finite (to_run f)
+unfolding to_run
+finite-filter f p q r s = rw (p, q, r, s) (simp (all_finite_append, all_finite_vec3, all_finite_one))
+
+pub returns : goal.returns
+returns c =
+    let a = c.args in
+    finite-filter (filter_of a.x a.sigma.now a.gravity a.alpha)
+    (rw c.state_numbers-numbers.ensures at c.all_finite.ensures) c.all_finite-2.ensures c.is_finite.ensures c.is_finite-2.ensures

@@ -1,0 +1,79 @@
+-- `layout::state_numbers` meets its contract.
+use mathlib.Core.Path.{◌≡◌, refl, sym}
+use mathlib.Core.List.{List, [], ◌∷◌, ◌++◌}
+use borrow.Author.Rules.{rules}
+use lib.Dec.{lit<}
+use lib.ListN.{length, get_or}
+use lib.Ieee.{Float, nan}
+use Rattle.drifters_matrix.specs.Matrix.{tab}
+use Rattle.drifters_core.specs.Vec3.{to_array}
+use Rattle.drifters_lie.specs.Lie.{to_array_se3}
+use Rattle.drifters_matrix.proofs.Matrix.Tab.{tab_is}
+use Rattle.drifters_entry.proofs.layout.state_numbers.Goals as goal
+
+-- nine numbers one by one
+nine : (m : List Float) → length m ≡ 9 →
+    get_or m 0 nan ∷ get_or m 1 nan ∷ get_or m 2 nan ∷ get_or m 3 nan ∷ get_or m 4 nan ∷ get_or m 5 nan ∷ get_or m 6 nan ∷ get_or m 7 nan ∷ get_or m 8 nan ∷ [] ≡ m
+unfolding tab
+nine m h = sym (tab_is m 9 (λ k. get_or m k nan) h (λ k p. refl))
+
+pub returns : goal.returns
+returns c =
+    let a = c.args in
+    let h : length a.c.rotation.«data» ≡ 9 = search rules depth 9 in
+    let k : length a.m.«data» ≡ 9 = search rules depth 9 in
+    λ i. nine a.c.rotation.«data» h i ++ to_array a.c.velocity ++ to_array a.c.position ++ to_array_se3 a.w ++ to_array a.v ++ nine a.m.«data» k i
+
+pub bounds-a-0 : goal.bounds-a-0
+bounds-a-0 c = lit< tt
+
+pub bounds-a-1 : goal.bounds-a-1
+bounds-a-1 c = lit< tt
+
+pub bounds-a-2 : goal.bounds-a-2
+bounds-a-2 c = lit< tt
+
+pub bounds-a-3 : goal.bounds-a-3
+bounds-a-3 c = lit< tt
+
+pub bounds-a-4 : goal.bounds-a-4
+bounds-a-4 c = lit< tt
+
+pub bounds-a-5 : goal.bounds-a-5
+bounds-a-5 c = lit< tt
+
+pub bounds-a-6 : goal.bounds-a-6
+bounds-a-6 c = lit< tt
+
+pub bounds-a-7 : goal.bounds-a-7
+bounds-a-7 c = lit< tt
+
+pub bounds-a-8 : goal.bounds-a-8
+bounds-a-8 c = lit< tt
+
+pub bounds-e-0 : goal.bounds-e-0
+bounds-e-0 c = lit< tt
+
+pub bounds-e-1 : goal.bounds-e-1
+bounds-e-1 c = lit< tt
+
+pub bounds-e-2 : goal.bounds-e-2
+bounds-e-2 c = lit< tt
+
+pub bounds-e-3 : goal.bounds-e-3
+bounds-e-3 c = lit< tt
+
+pub bounds-e-4 : goal.bounds-e-4
+bounds-e-4 c = lit< tt
+
+pub bounds-e-5 : goal.bounds-e-5
+bounds-e-5 c = lit< tt
+
+pub bounds-e-6 : goal.bounds-e-6
+bounds-e-6 c = lit< tt
+
+pub bounds-e-7 : goal.bounds-e-7
+bounds-e-7 c = lit< tt
+
+pub bounds-e-8 : goal.bounds-e-8
+bounds-e-8 c = lit< tt

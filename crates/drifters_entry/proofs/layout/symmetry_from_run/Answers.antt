@@ -1,0 +1,14 @@
+-- `layout::symmetry_from_run` meets its contract.
+use borrow.Author.Rules.{rules}
+use Rattle.drifters_entry.specs.Layout.{from_run}
+use Rattle.drifters_entry.proofs.layout.symmetry_from_run.Goals as goal
+
+pub returns : goal.returns
+unfolding from_run
+returns c =
+    λ i. record {
+      c = record { rotation = c.mat3_at.ensures i; velocity = c.vec3_at.ensures i; position = c.vec3_at-2.ensures i };
+      gamma = record { omega = c.vec3_at-3.ensures i; nu = c.vec3_at-4.ensures i };
+      delta = c.vec3_at-5.ensures i;
+      e = c.mat3_at-2.ensures i;
+    }
