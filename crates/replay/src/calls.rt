@@ -10,6 +10,8 @@ use little_endian::bits::numbers_of;
 use replay_lists::call_digest::ANSWER_BYTES;
 use replay_lists::calls::run_call;
 use replay_lists::tally::{Tally, unread};
+use std::io;
+use std::rt::Files;
 
 // Room for 256 calls of the most numbers: more than a sheet holds, so that the place of each of its calls is seen to lie in it.
 const ROOM: usize = 256 * MOST_CALL_NUMBERS;
@@ -55,7 +57,7 @@ fn filter_of(bits: &[u64; FILTER_LENGTH]) -> [f64; FILTER_LENGTH] {
 }
 
 // A sheet and its answers, as many as it has calls.
-fn replay_sheet(name: &[u8], sheet: &[u8], answers: &[u8]) -> Tally
+fn replay_sheet(rt: &impl Print, name: &[u8], sheet: &[u8], answers: &[u8]) -> io::Result<Tally>
     requires { length answers.now ≤ 8160 }
 {
     let mut filter = [0u64; FILTER_LENGTH];
@@ -64,14 +66,14 @@ fn replay_sheet(name: &[u8], sheet: &[u8], answers: &[u8]) -> Tally
     match read_sheet(sheet, &mut filter, &mut kinds, &mut bits) {
         Filled::Length(n) => {
             if n != answers.len() / ANSWER_BYTES {
-                return unread(name);
+                return unread(rt, name);
             }
             let mut run = filter_of(&filter);
             let t = run_calls(&mut run, &kinds, n, &bits, answers);
-            t.print(name);
-            t
+            t.print(rt, name)?;
+            Ok(t)
         }
-        Filled::Refused(_) => unread(name),
+        Filled::Refused(_) => unread(rt, name),
     }
 }
 
@@ -86,24 +88,29 @@ fn answers_room() -> [u8; ANSWER_BYTES * MOST_CALLS] {
 }
 
 // Replays the sheet of one name against the answers of another.
-pub(crate) fn replay_files(title: &[u8], sheet_name: &[u8], answers_name: &[u8]) -> Tally {
+pub(crate) fn replay_files<R: Files + Print>(
+    rt: &R,
+    title: &[u8],
+    sheet_name: &[u8],
+    answers_name: &[u8],
+) -> io::Result<Tally> {
     let mut sheet = sheet_room();
-    let n = read_named(sheet_name, b".sheet", &mut sheet);
+    let n = read_named(rt, sheet_name, b".sheet", &mut sheet);
     let mut answers = answers_room();
-    let m = read_named(answers_name, b".answers", &mut answers);
-    replay_sheet(title, &sheet[..n], &answers[..m])
+    let m = read_named(rt, answers_name, b".answers", &mut answers);
+    replay_sheet(rt, title, &sheet[..n], &answers[..m])
 }
 
 // Replays the lists of names, of which each ends with a space; answers their calls with those before.
-pub(crate) fn replay(before: Tally, names: &[u8]) -> Tally {
+pub(crate) fn replay<R: Files + Print>(rt: &R, before: Tally, names: &[u8]) -> io::Result<Tally> {
     let mut t = before;
     let mut from = 0;
     for i in 0..names.len() {
         if names[i] == b' ' {
             let name = &names[from..i];
-            t = t.add(replay_files(name, name, name));
+            t = t.add(replay_files(rt, name, name, name)?);
             from = i + 1;
         }
     }
-    t
+    Ok(t)
 }

@@ -8,9 +8,10 @@ use drifters_entry::entry;
 use drifters_entry::entry::{FILTER_LENGTH, START_LENGTH};
 use drifters_eqf::filter::{Answer, LENGTH_REFUSAL};
 use drifters_kind::kind::{Kind, MOST_CALL_NUMBERS, STATE_LENGTH, call_length};
-use libc::STDOUT_FILENO;
 use replay_lists::tally::unread;
 use sheet_file::read_file;
+use std::io;
+use std::rt::Files;
 
 // 1 for the refusal by length, 0 for another answer.
 fn by_length(answer: Answer) -> u64
@@ -72,39 +73,39 @@ fn refused_others(run: &mut [f64], less: usize) -> u64
 }
 
 // Prints how many of the eight entries are refused by length.
-fn refused(name: &[u8], run: &mut [f64], less: usize)
+fn refused(rt: &impl Print, name: &[u8], run: &mut [f64], less: usize) -> io::Result<()>
     requires { less ≤ 2 }
 {
     let n = refused_calls(run, less) + refused_measured(run, less) + refused_others(run, less);
-    io::write_all(STDOUT_FILENO, name);
-    io::write_all(STDOUT_FILENO, b": ");
-    io::print_decimal(STDOUT_FILENO, n);
-    io::write_all(STDOUT_FILENO, b" of 8 entries refused 1\n");
+    rt.write_all(name)?;
+    rt.write_all(b": ")?;
+    print!(rt; "{n}")?;
+    rt.write_all(b" of 8 entries refused 1\n")
 }
 
 // Runs one number shorter and one longer than stated, and as stated.
-pub(crate) fn print_lengths() {
+pub(crate) fn print_lengths(rt: &impl Print) -> io::Result<()> {
     let mut short = [0.0; FILTER_LENGTH - 1];
     let mut run = [0.0; FILTER_LENGTH];
     let mut long = [0.0; FILTER_LENGTH + 1];
-    refused(b"a filter one number short", &mut short, 1);
-    refused(b"a filter one number long", &mut long, 1);
-    refused(b"a number too few", &mut run, 2);
-    refused(b"a number too many", &mut run, 0);
-    refused(b"every length as stated", &mut run, 1);
+    refused(rt, b"a filter one number short", &mut short, 1)?;
+    refused(rt, b"a filter one number long", &mut long, 1)?;
+    refused(rt, b"a number too few", &mut run, 2)?;
+    refused(rt, b"a number too many", &mut run, 0)?;
+    refused(rt, b"every length as stated", &mut run, 1)
 }
 
 // A sheet's file as the program `sheet` prints it.
-pub(crate) fn print_sheet(name: &[u8], path: &[u8]) {
+pub(crate) fn print_sheet<R: Files + Print>(rt: &R, name: &[u8], path: &[u8]) -> io::Result<()> {
     let mut bytes = sheet_room();
-    let n = read_file(path, &mut bytes);
+    let n = read_file(rt, path, &mut bytes);
     if n == 0 {
-        unread(name);
-        return;
+        unread(rt, name)?;
+        return Ok(());
     }
     let mut text = [0u8; MOST_TEXT];
     let length = sheet_text(&bytes[..n], &mut text);
-    io::write_all(STDOUT_FILENO, name);
-    io::write_all(STDOUT_FILENO, b":\n");
-    io::write_all(STDOUT_FILENO, &text[..length]);
+    rt.write_all(name)?;
+    rt.write_all(b":\n")?;
+    rt.write_all(&text[..length])
 }

@@ -2,7 +2,8 @@
 #![tactic(auto)]
 
 use replay_lists::compasses::replay_compasses;
+use std::io;
 
-fn main() {
-    replay_compasses(b"compasses", b"compasses.bin");
+fn main(rt: HostRuntime) -> io::Result<()> {
+    replay_compasses(&rt, b"compasses", b"compasses.bin")
 }

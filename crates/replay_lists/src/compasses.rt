@@ -12,6 +12,8 @@ use drifters_eqf::filter::Answer;
 use little_endian::bits::numbers_of;
 use little_endian::bytes::u64s_at;
 use sheet_file::read_file;
+use std::io;
+use std::rt::Files;
 
 // How many filters and how many calls the file has.
 const FILTERS: usize = 8;
@@ -142,12 +144,12 @@ fn room() -> [u8; FILE_BYTES] {
 }
 
 // Replays the file of the compasses.
-pub fn replay_compasses(name: &[u8], path: &[u8]) {
+pub fn replay_compasses<R: Files + Print>(rt: &R, name: &[u8], path: &[u8]) -> io::Result<()> {
     let mut s = room();
-    let n = read_file(path, &mut s);
+    let n = read_file(rt, path, &mut s);
     if n != FILE_BYTES {
-        unread(name);
-        return;
+        unread(rt, name)?;
+        return Ok(());
     }
-    run_all(&s).print_compasses(name);
+    run_all(&s).print_compasses(rt, name)
 }

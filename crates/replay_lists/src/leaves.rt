@@ -10,6 +10,8 @@ use drifters_matrix::math::shapes::Mat21;
 use little_endian::bits::{bits_of, numbers_of};
 use little_endian::bytes::u64s_at;
 use sheet_file::read_file;
+use std::io;
+use std::rt::Files;
 
 // The functions, each of at most six numbers, with at most 36 numbers as its result.
 #[derive(Clone, Copy)]
@@ -104,47 +106,61 @@ fn run_leaf(leaf: Leaf, s: &[u8]) -> Tally {
 }
 
 // Replays the records of a file.
-fn replay_leaf(name: &[u8], leaf: Leaf, path: &[u8]) {
+fn replay_leaf<R: Files + Print>(rt: &R, name: &[u8], leaf: Leaf, path: &[u8]) -> io::Result<()> {
     let mut s = [0u8; RECORD_BYTES * MOST_RECORDS];
-    let n = read_file(path, &mut s);
+    let n = read_file(rt, path, &mut s);
     if n == 0 {
-        unread(name);
-        return;
+        unread(rt, name)?;
+        return Ok(());
     }
-    run_leaf(leaf, &s[..n]).print_values(name);
+    run_leaf(leaf, &s[..n]).print_values(rt, name)
 }
 
-fn replay_adjoints() {
+fn replay_adjoints<R: Files + Print>(rt: &R) -> io::Result<()> {
     replay_leaf(
+        rt,
         b"integrated_adjoint",
         Leaf::IntegratedAdjoint,
         b"adjoint.bin",
-    );
+    )?;
     replay_leaf(
+        rt,
         b"integrated_adjoint, amax 2^60",
         Leaf::IntegratedAdjoint,
         b"adjoint60.bin",
-    );
+    )?;
     replay_leaf(
+        rt,
         b"integrated_adjoint, amax 2^61",
         Leaf::IntegratedAdjoint,
         b"adjoint61.bin",
-    );
+    )?;
     replay_leaf(
+        rt,
         b"integrated_adjoint, terms",
         Leaf::IntegratedAdjoint,
         b"adjoint_terms.bin",
-    );
+    )
 }
 
-fn replay_other_leaves() {
-    replay_leaf(b"mul_transpose", Leaf::MulTranspose, b"mul_transpose.bin");
-    replay_leaf(b"amax", Leaf::Amax, b"amax.bin");
-    replay_leaf(b"amax of a matrix", Leaf::MatrixAmax, b"matrix_amax.bin");
+fn replay_other_leaves<R: Files + Print>(rt: &R) -> io::Result<()> {
+    replay_leaf(
+        rt,
+        b"mul_transpose",
+        Leaf::MulTranspose,
+        b"mul_transpose.bin",
+    )?;
+    replay_leaf(rt, b"amax", Leaf::Amax, b"amax.bin")?;
+    replay_leaf(
+        rt,
+        b"amax of a matrix",
+        Leaf::MatrixAmax,
+        b"matrix_amax.bin",
+    )
 }
 
 // Replays every file of values.
-pub fn replay_leaves() {
-    replay_adjoints();
-    replay_other_leaves();
+pub fn replay_leaves<R: Files + Print>(rt: &R) -> io::Result<()> {
+    replay_adjoints(rt)?;
+    replay_other_leaves(rt)
 }

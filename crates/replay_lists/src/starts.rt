@@ -6,6 +6,8 @@ use drifters_entry::entry::{FILTER_LENGTH, START_LENGTH, start};
 use little_endian::bits::numbers_of;
 use little_endian::bytes::u64s_at;
 use sheet_file::read_file;
+use std::io;
+use std::rt::Files;
 
 // How many starts the file has.
 const STARTS: usize = 24;
@@ -47,13 +49,13 @@ fn room() -> [u8; START_BYTES * STARTS] {
 }
 
 // Replays the file of the starts.
-pub fn replay_starts(name: &[u8], path: &[u8]) -> Tally {
+pub fn replay_starts<R: Files + Print>(rt: &R, name: &[u8], path: &[u8]) -> io::Result<Tally> {
     let mut s = room();
-    let n = read_file(path, &mut s);
+    let n = read_file(rt, path, &mut s);
     if n != START_BYTES * STARTS {
-        return unread(name);
+        return unread(rt, name);
     }
     let t = run_starts(&s);
-    t.print(name);
-    t
+    t.print(rt, name)?;
+    Ok(t)
 }

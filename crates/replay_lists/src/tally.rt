@@ -1,8 +1,7 @@
 // How many calls gave each answer, and how many answered otherwise than the original.
 use crate::call_digest::CallDigest;
 use drifters_eqf::filter::Answer;
-use libc::STDOUT_FILENO;
-use std::num::wrapping_add_u64;
+use std::io;
 
 #[derive(Clone, Copy)]
 pub struct Tally {
@@ -22,7 +21,7 @@ pub struct Tally {
 
 // The sums wrap, so that no bound has to be kept; no list is as long.
 fn sum(a: u64, b: u64) -> u64 {
-    wrapping_add_u64(a, b)
+    a.wrapping_add(b)
 }
 
 impl Tally {
@@ -92,65 +91,66 @@ impl Tally {
     }
 
     // The line of a list of calls.
-    pub fn print(self, name: &[u8]) {
-        io::write_all(STDOUT_FILENO, name);
-        io::write_all(STDOUT_FILENO, b": ");
-        put(self.calls, b" calls: ");
-        put(self.fine, b" ok, ");
-        put(self.nis, b" NIS, ");
-        self.print_refused();
-        self.print_differ();
+    pub fn print(self, rt: &impl Print, name: &[u8]) -> io::Result<()> {
+        rt.write_all(name)?;
+        rt.write_all(b": ")?;
+        put(rt, self.calls, b" calls: ")?;
+        put(rt, self.fine, b" ok, ")?;
+        put(rt, self.nis, b" NIS, ")?;
+        self.print_refused(rt)?;
+        self.print_differ(rt)
     }
 
     // The refusals by their numbers.
-    fn print_refused(self) {
-        put(self.blank, b" refused 2, ");
-        put(self.turn, b" refused 3, ");
-        put(self.pivot, b" refused 4, ");
-        put(self.range, b" refused 5, ");
-        put(self.null, b" refused 7; ");
+    fn print_refused(self, rt: &impl Print) -> io::Result<()> {
+        put(rt, self.blank, b" refused 2, ")?;
+        put(rt, self.turn, b" refused 3, ")?;
+        put(rt, self.pivot, b" refused 4, ")?;
+        put(rt, self.range, b" refused 5, ")?;
+        put(rt, self.null, b" refused 7; ")
     }
 
     // The line of a list of updates by several compasses.
-    pub(crate) fn print_compasses(self, name: &[u8]) {
-        io::write_all(STDOUT_FILENO, name);
-        io::write_all(STDOUT_FILENO, b": ");
-        put(self.calls, b" calls: ");
-        put(self.nis, b" chosen, ");
-        put(self.fine, b" none, ");
-        put(self.length, b" refused 1, ");
-        put(self.blank, b" refused 2; ");
-        self.print_differ();
+    pub(crate) fn print_compasses(self, rt: &impl Print, name: &[u8]) -> io::Result<()> {
+        rt.write_all(name)?;
+        rt.write_all(b": ")?;
+        put(rt, self.calls, b" calls: ")?;
+        put(rt, self.nis, b" chosen, ")?;
+        put(rt, self.fine, b" none, ")?;
+        put(rt, self.length, b" refused 1, ")?;
+        put(rt, self.blank, b" refused 2; ")?;
+        self.print_differ(rt)
     }
 
     // The line of a list of values, which are all given.
-    pub(crate) fn print_values(self, name: &[u8]) {
-        io::write_all(STDOUT_FILENO, name);
-        io::write_all(STDOUT_FILENO, b": ");
-        put(self.calls, b" values; ");
-        self.print_differ();
+    pub(crate) fn print_values(self, rt: &impl Print, name: &[u8]) -> io::Result<()> {
+        rt.write_all(name)?;
+        rt.write_all(b": ")?;
+        put(rt, self.calls, b" values; ")?;
+        self.print_differ(rt)
     }
 
     // The end of a line.
-    fn print_differ(self) {
-        put(self.differ, b" differ");
+    fn print_differ(self, rt: &impl Print) -> io::Result<()> {
+        put(rt, self.differ, b" differ")?;
         if self.first != 0 {
-            io::write_all(STDOUT_FILENO, b", the first at ");
-            io::print_decimal(STDOUT_FILENO, self.first);
+            rt.write_all(b", the first at ")?;
+            let first = self.first;
+            print!(rt; "{first}")?;
         }
-        io::write_all(STDOUT_FILENO, b"\n");
+        rt.write_all(b"\n")
     }
 }
 
 // A number, and a text after it.
-fn put(n: u64, text: &[u8]) {
-    io::print_decimal(STDOUT_FILENO, n);
-    io::write_all(STDOUT_FILENO, text);
+fn put(rt: &impl Print, n: u64, text: &[u8]) -> io::Result<()> {
+    print!(rt; "{n}")?;
+    rt.write_all(text)
 }
 
 // Says that a list's files are missing or do not fit each other: no call is made.
-pub fn unread(name: &[u8]) -> Tally {
-    io::write_all(STDOUT_FILENO, name);
-    io::write_all(STDOUT_FILENO, b": cannot be read\n");
-    Tally::none()
+pub fn unread(rt: &impl Print, name: &[u8]) -> io::Result<Tally> {
+    rt.write_all(name)?;
+    rt.write_all(b": cannot be read\n")?;
+    Ok(Tally::none())
 }

@@ -3,13 +3,13 @@
 
 use call_sheet::run::{MOST_TEXT, sheet_text};
 use call_sheet::sheet::MOST_BYTES;
-use libc::STDOUT_FILENO;
 use sheet_file::read_file;
+use std::io;
 
-fn main() {
+fn main(rt: HostRuntime) -> io::Result<()> {
     let mut bytes = [0u8; MOST_BYTES];
-    let n = read_file(b"sheet.bin", &mut bytes);
+    let n = read_file(&rt, b"sheet.bin", &mut bytes);
     let mut text = [0u8; MOST_TEXT];
     let length = sheet_text(&bytes[..n], &mut text);
-    io::write_all(STDOUT_FILENO, &text[..length]);
+    rt.write_all(&text[..length])
 }

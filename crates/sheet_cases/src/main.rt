@@ -7,9 +7,10 @@ use call_sheet::run::{MOST_TEXT, run_sheet, sheet_text};
 use call_sheet::sheet::{Filled, MOST_BYTES};
 use drifters_entry::entry::FILTER_LENGTH;
 use drifters_eqf::filter::LENGTH_REFUSAL;
-use libc::STDOUT_FILENO;
 use little_endian::bytes::put_u32;
 use sheet_file::{counted, read_file};
+use std::io;
+use std::rt::Files;
 
 // Room for the sheets that are made here, the longest of them longer than a sheet may be.
 const ROOM: usize = MOST_BYTES + 8;
@@ -35,19 +36,19 @@ const NO_KIND: u32 = 8;
 const HIGHEST: u32 = 4294967295;
 
 // What a sheet is, and its text.
-fn report(name: &[u8], sheet: &[u8]) {
-    io::write_all(STDOUT_FILENO, name);
-    io::write_all(STDOUT_FILENO, b":\n");
+fn report(rt: &impl Print, name: &[u8], sheet: &[u8]) -> io::Result<()> {
+    rt.write_all(name)?;
+    rt.write_all(b":\n")?;
     let mut text = [0u8; MOST_TEXT];
     let length = sheet_text(sheet, &mut text);
-    io::write_all(STDOUT_FILENO, &text[..length]);
+    rt.write_all(&text[..length])
 }
 
 // The sheet in a file.
-fn file(name: &[u8], path: &[u8]) {
+fn file<R: Files + Print>(rt: &R, name: &[u8], path: &[u8]) -> io::Result<()> {
     let mut bytes = [0u8; MOST_BYTES];
-    let n = read_file(path, &mut bytes);
-    report(name, &bytes[..n]);
+    let n = read_file(rt, path, &mut bytes);
+    report(rt, name, &bytes[..n])
 }
 
 // Entry i of a table: its kind, and the offset of its body.
@@ -70,33 +71,33 @@ fn put_entries(bytes: &mut [u8; ROOM], i: usize, n: usize, kind: u32, size: u32,
 }
 
 // The sheet in the first `length` bytes. They come by value, so that their number is known.
-fn report_front(name: &[u8], bytes: [u8; ROOM], length: usize)
+fn report_front(rt: &impl Print, name: &[u8], bytes: [u8; ROOM], length: usize) -> io::Result<()>
     requires { length ≤ 65544 }
 {
-    report(name, &bytes[..length]);
+    report(rt, name, &bytes[..length])
 }
 
 // A filter of zeros alone, by its entry.
-fn filter_entry(name: &[u8], kind: u32, offset: u32) {
+fn filter_entry(rt: &impl Print, name: &[u8], kind: u32, offset: u32) -> io::Result<()> {
     let mut bytes = [0u8; ROOM];
     put_u32(&mut bytes, 0, 1);
     put_entry(&mut bytes, 0, kind, offset);
-    report_front(name, bytes, ALONE);
+    report_front(rt, name, bytes, ALONE)
 }
 
 // A filter of zeros and one call, its body at `offset`, in a file of `length` bytes.
-fn one_call(name: &[u8], kind: u32, offset: usize, length: usize)
+fn one_call(rt: &impl Print, name: &[u8], kind: u32, offset: usize, length: usize) -> io::Result<()>
     requires { (offset ≤ 65544) × (length ≤ 65544) }
 {
     let mut bytes = [0u8; ROOM];
     put_u32(&mut bytes, 0, 2);
     put_entry(&mut bytes, 0, 0, 20);
     put_entry(&mut bytes, 1, kind, offset as u32);
-    report_front(name, bytes, length);
+    report_front(rt, name, bytes, length)
 }
 
 // A sheet of n entries: a filter of zeros, and state calls, whose bodies are empty.
-fn states(name: &[u8], n: usize)
+fn states(rt: &impl Print, name: &[u8], n: usize) -> io::Result<()>
     requires { n ≤ 257 }
 {
     let mut bytes = [0u8; ROOM];
@@ -104,11 +105,11 @@ fn states(name: &[u8], n: usize)
     put_u32(&mut bytes, 0, n as u32);
     put_entry(&mut bytes, 0, 0, (4 + 8 * n) as u32);
     put_entries(&mut bytes, 1, n, 6, 0, end as u32);
-    report_front(name, bytes, end);
+    report_front(rt, name, bytes, end)
 }
 
 // A sheet of n entries: a filter of zeros, 101 general updates, a propagation, and state calls, in a file of `length` bytes.
-fn long(name: &[u8], n: usize, length: usize)
+fn long(rt: &impl Print, name: &[u8], n: usize, length: usize) -> io::Result<()>
     requires { (n ≤ 257) × (length ≤ 65544) }
 {
     let mut bytes = [0u8; ROOM];
@@ -118,93 +119,106 @@ fn long(name: &[u8], n: usize, length: usize)
     put_entries(&mut bytes, 1, 102, 5, 600, updates);
     put_entries(&mut bytes, 102, 103, 1, 200, updates + 60600);
     put_entries(&mut bytes, 103, n, 6, 0, updates + 60800);
-    report_front(name, bytes, length);
+    report_front(rt, name, bytes, length)
 }
 
 // A text run that is a byte too short is refused 1.
-fn short_text() {
+fn short_text(rt: &impl Print) -> io::Result<()> {
     let mut text = [0u8; MOST_TEXT - 1];
     if let Filled::Refused(n) = run_sheet(b"", &mut text) {
         if n == LENGTH_REFUSAL {
-            io::write_all(STDOUT_FILENO, b"a text run a byte too short:\nrefused 1\n");
+            rt.write_all(b"a text run a byte too short:\nrefused 1\n")?;
         }
     }
+    Ok(())
 }
 
 // A filter of zeros and one call: in its place, and out of it.
-fn one_calls() {
-    one_call(b"a position call", 2, BODY, END);
-    one_call(b"a gap", 2, BODY + 8, END + 8);
-    one_call(b"an offset too high", 2, BODY + 8, END);
-    one_call(b"an overlap", 2, BODY - 8, END - 8);
-    one_call(b"an offset too low", 2, BODY - 8, END);
-    one_call(b"a byte too many", 2, BODY, END + 1);
-    one_call(b"a byte too few", 2, BODY, END - 1);
-    one_call(b"a state call", 6, BODY, BODY);
-    one_call(b"a scalar update", 7, BODY, SCALAR_END);
-    one_call(b"the first number of no kind", NO_KIND, BODY, SCALAR_END);
-    one_call(b"the highest number", HIGHEST, BODY, END);
-    one_call(b"a second filter", 0, BODY, BODY + FILTER_BYTES);
+fn one_calls(rt: &impl Print) -> io::Result<()> {
+    one_call(rt, b"a position call", 2, BODY, END)?;
+    one_call(rt, b"a gap", 2, BODY + 8, END + 8)?;
+    one_call(rt, b"an offset too high", 2, BODY + 8, END)?;
+    one_call(rt, b"an overlap", 2, BODY - 8, END - 8)?;
+    one_call(rt, b"an offset too low", 2, BODY - 8, END)?;
+    one_call(rt, b"a byte too many", 2, BODY, END + 1)?;
+    one_call(rt, b"a byte too few", 2, BODY, END - 1)?;
+    one_call(rt, b"a state call", 6, BODY, BODY)?;
+    one_call(rt, b"a scalar update", 7, BODY, SCALAR_END)?;
+    one_call(
+        rt,
+        b"the first number of no kind",
+        NO_KIND,
+        BODY,
+        SCALAR_END,
+    )?;
+    one_call(rt, b"the highest number", HIGHEST, BODY, END)?;
+    one_call(rt, b"a second filter", 0, BODY, BODY + FILTER_BYTES)
 }
 
 // How many bytes count.
-fn print_count(name: &[u8], n: usize) {
-    io::write_all(STDOUT_FILENO, name);
-    io::write_all(STDOUT_FILENO, b": ");
-    io::print_decimal(STDOUT_FILENO, n as u64);
-    io::write_all(STDOUT_FILENO, b" bytes\n");
+fn print_count(rt: &impl Print, name: &[u8], n: usize) -> io::Result<()> {
+    rt.write_all(name)?;
+    rt.write_all(b": ")?;
+    print!(rt; "{n}")?;
+    rt.write_all(b" bytes\n")
 }
 
 // A file of 65,537 bytes in a run that holds it, and in one that is a byte too short.
-fn long_file() {
+fn long_file<R: Files + Print>(rt: &R) -> io::Result<()> {
     let mut whole = [0u8; MOST_BYTES + 1];
     print_count(
+        rt,
         b"a file in a run of its length",
-        read_file(b"long.bin", &mut whole),
-    );
+        read_file(rt, b"long.bin", &mut whole),
+    )?;
     let mut short = [0u8; MOST_BYTES];
     print_count(
+        rt,
         b"in a run a byte shorter",
-        read_file(b"long.bin", &mut short),
-    );
+        read_file(rt, b"long.bin", &mut short),
+    )
 }
 
 // The same file in a run that holds a sheet of a filter and a state call: what the file begins with.
-fn sheet_and_more() {
+fn sheet_and_more<R: Files + Print>(rt: &R) -> io::Result<()> {
     let mut bytes = [0u8; BODY];
-    let n = read_file(b"long.bin", &mut bytes);
-    report(b"a sheet, and more bytes than the run holds", &bytes[..n]);
+    let n = read_file(rt, b"long.bin", &mut bytes);
+    report(
+        rt,
+        b"a sheet, and more bytes than the run holds",
+        &bytes[..n],
+    )
 }
 
 // What counts of the bytes of such a sheet by the answer of one further read.
-fn further_reads() {
-    print_count(b"3844 bytes, then the end", counted(BODY, 0));
-    print_count(b"3844 bytes, then a byte", counted(BODY, 1));
-    print_count(b"3844 bytes, then a failure", counted(BODY, -1));
+fn further_reads(rt: &impl Print) -> io::Result<()> {
+    print_count(rt, b"3844 bytes, then the end", counted(BODY, 0))?;
+    print_count(rt, b"3844 bytes, then a byte", counted(BODY, 1))?;
+    print_count(rt, b"3844 bytes, then a failure", counted(BODY, -1))
 }
 
 // What is read of files, and what of it counts.
-fn files() {
-    file(b"a folder", b".");
-    long_file();
-    sheet_and_more();
-    further_reads();
+fn files<R: Files + Print>(rt: &R) -> io::Result<()> {
+    file(rt, b"a folder", b".")?;
+    long_file(rt)?;
+    sheet_and_more(rt)?;
+    further_reads(rt)
 }
 
-fn main() {
-    file(b"every kind and every refusal", b"flight.bin");
-    file(b"large numbers", b"overflow.bin");
-    file(b"no such file", b"missing.bin");
-    report(b"an empty file", b"");
-    states(b"no entries", 0);
-    states(b"a filter alone", 1);
-    states(b"256 entries", 256);
-    states(b"257 entries", 257);
-    filter_entry(b"a filter of kind 1", 1, 12);
-    filter_entry(b"a filter at 13", 0, 13);
-    one_calls();
-    long(b"the longest sheet", 113, 65532);
-    long(b"a longer one", 114, 65540);
-    short_text();
-    files();
+fn main(rt: HostRuntime) -> io::Result<()> {
+    file(&rt, b"every kind and every refusal", b"flight.bin")?;
+    file(&rt, b"large numbers", b"overflow.bin")?;
+    file(&rt, b"no such file", b"missing.bin")?;
+    report(&rt, b"an empty file", b"")?;
+    states(&rt, b"no entries", 0)?;
+    states(&rt, b"a filter alone", 1)?;
+    states(&rt, b"256 entries", 256)?;
+    states(&rt, b"257 entries", 257)?;
+    filter_entry(&rt, b"a filter of kind 1", 1, 12)?;
+    filter_entry(&rt, b"a filter at 13", 0, 13)?;
+    one_calls(&rt)?;
+    long(&rt, b"the longest sheet", 113, 65532)?;
+    long(&rt, b"a longer one", 114, 65540)?;
+    short_text(&rt)?;
+    files(&rt)
 }

@@ -41,10 +41,10 @@ pub returns-then-not-found : goal.returns-then-not-found
 returns-then-not-found c =
     let is = rw (c.vec3_at-2.ensures, c.vec3_at.ensures, c.symmetry_from_run.ensures) at c.measured_direction-found.ensures in
     unmeasured_asked Direction _ _ c.unmeasured.result refl (Refuse null_refusal) c.unmeasured.ensures
-    (asked-refusal (from_run c.args.run.now) c.args.numbers.now c.measured_direction-found.result is (ap not c.if-not-found.true)) tt
+    (asked-refusal (from_run c.args.run.now) c.args.numbers.now c.measured_direction-found.result is c.if-not-found.true) tt
 
 pub returns : goal.returns
 returns c =
     let is = rw (c.vec3_at-2.ensures, c.vec3_at.ensures, c.symmetry_from_run.ensures) at c.measured_direction-found.ensures in
     measured_asked Direction _ _ c.measured.result refl c.measured_direction-found.result.measurement 6 c.measured.ensures refl
-    (asked-update (from_run c.args.run.now) c.args.numbers.now c.measured_direction-found.result is (ap not c.if-not-found.false)) c.requires.1 (omega arith)
+    (asked-update (from_run c.args.run.now) c.args.numbers.now c.measured_direction-found.result is c.if-not-found.false) c.requires.1 (omega arith)

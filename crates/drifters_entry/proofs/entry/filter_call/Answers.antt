@@ -7,5 +7,5 @@ use Rattle.drifters_entry.proofs.entry.filter_call.Goals as goal
 
 pub returns : goal.returns
 returns c =
-    let empty : c.call.new.run.1.1.0 ≡ [] = no_numbers c.call.new.run.1.1.0 c.none-2-1.given in
+    let empty : c.call.new.written ≡ [] = no_numbers c.call.new.written ? in
     rw empty at c.call.ensures

@@ -16,9 +16,9 @@ unfolding to_run
 returns c =
     let x = c.args.x in
     let b0 = begins_none c.args.run.now c.requires in
-    let b1 = begins_next {v = pose_numbers x.c ++ to_array_se3 x.gamma ++ to_array x.delta ++ x.e.«data»} 33 b0 c.store.auto.1.0 (c.store.ensures ∙ c.state_numbers-numbers.ensures) (omega arith) in
-    let b2 = begins_next 441 b1 c.store-2.auto.1.0 c.store-2.ensures (omega arith) in
-    let b3 = begins_next 3 b2 c.store_vec3.auto.1.0 c.store_vec3.ensures (omega arith) in
+    let b1 = begins_next {v = pose_numbers x.c ++ to_array_se3 x.gamma ++ to_array x.delta ++ x.e.«data»} 33 b0 c.store.auto.out (c.store.ensures ∙ c.state_numbers-numbers.ensures) (omega arith) in
+    let b2 = begins_next 441 b1 c.store-2.auto.out c.store-2.ensures (omega arith) in
+    let b3 = begins_next 3 b2 c.store_vec3.auto.out c.store_vec3.ensures (omega arith) in
     begins_last c.args.alpha b3
 
 pub shape_of-run : goal.shape_of-run
