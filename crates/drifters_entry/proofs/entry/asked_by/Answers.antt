@@ -1,7 +1,6 @@
 -- `entry::asked_by` meets its contract.
 use mathlib.Core.Path.{refl, ap, ◌∙◌}
 use native.Mathlib.Omega.{arith}
-use borrow.Author.Rules.{rules}
 use Rattle.drifters_kind.specs.Kind.{call_length}
 use Rattle.drifters_kind.specs.declared.kind.Kind.TheVariants.{Propagate, Position, Velocity, Direction, General, State, Scalar}
 use Rattle.drifters_entry.specs.declared.entry.Action.TheVariants as action

@@ -1,7 +1,6 @@
 -- `entry::call` meets its contract.
 use mathlib.Core.Path.{◌≡◌, refl, subst}
 use native.Mathlib.Omega.{arith}
-use borrow.Author.Rules.{rules}
 use Rattle.drifters_entry.specs.Layout.{from_run}
 use Rattle.drifters_entry.specs.Entry.{request_of, performed, range_checked}
 use Rattle.drifters_entry.specs.Asked.{as_request, Readable}
@@ -10,7 +9,7 @@ use Rattle.drifters_entry.specs.declared.entry.Asked.{Asked}
 use Rattle.drifters_kind.specs.declared.kind.Kind.{Kind}
 use mathlib.Core.List.{List}
 use lib.Ieee.{Float}
-use Rattle.drifters_entry.proofs.Calls.{Passed, passed, call_refused, asked_length, call_asked, call_made}
+use Rattle.drifters_entry.proofs.Calls.{passed, call_refused, asked_length, call_asked, call_made}
 use Rattle.drifters_entry.proofs.entry.call.Goals as goal
 
 -- what is asked and read, where the action is told

@@ -1,5 +1,4 @@
 -- `entry::copy_run` meets its contract.
-use borrow.Author.Rules.{rules}
 use borrow.Author.Tests.{eq-eqb, ne_eqb}
 use Rattle.drifters_entry.proofs.entry.copy_run.Goals as goal
 

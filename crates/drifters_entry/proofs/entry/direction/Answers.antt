@@ -4,7 +4,6 @@ use mathlib.Core.Bool.{Bool, true, false, not, cond, true≢false}
 use mathlib.Core.List.{List}
 use mathlib.Core.Option.{Option, none, some}
 use native.Mathlib.Omega.{arith}
-use borrow.Author.Rules.{rules}
 use lib.Ieee.{Float}
 use Rattle.drifters_lie.specs.Lie.{vec3_at}
 use Rattle.drifters_eqf.specs.Answer.{null_refusal}

@@ -2,7 +2,6 @@
 use mathlib.Core.Path.{◌≡◌}
 use mathlib.Core.Bool.{cond, ◌&&◌}
 use borrow.Author.Tests.{not-true, not-false}
-use lib.ListN.{length}
 use Rattle.drifters_eqf.specs.Answer.{blank_refusal}
 use Rattle.drifters_entry.specs.Entry.{lengths_fit}
 use Rattle.drifters_entry.specs.Asked.{first_refusal}

@@ -1,8 +1,7 @@
 -- `entry::nav_state` meets its contract.
 use mathlib.Core.List.{[]}
-use borrow.Author.Rules.{rules}
 use Rattle.drifters_kind.specs.declared.kind.Kind.TheVariants.{State}
-use Rattle.drifters_entry.proofs.Calls.{Passed, passed, call_refused, call_passed}
+use Rattle.drifters_entry.proofs.Calls.{passed, call_refused, call_passed}
 use Rattle.drifters_entry.proofs.entry.nav_state.Goals as goal
 
 pub returns-then-refusal-ne0 : goal.returns-then-refusal-ne0

@@ -1,5 +1,4 @@
 -- `entry::position` meets its contract.
-use borrow.Author.Rules.{rules}
 use Rattle.drifters_entry.proofs.entry.position.Goals as goal
 
 pub returns : goal.returns

@@ -1,5 +1,4 @@
 -- `process_noise_at` meets its contract.
-use native.Mathlib.Omega.{arith}
 use Rattle.drifters_entry.proofs.entry.process_noise_at.Goals as goal
 
 pub returns : goal.returns

@@ -1,5 +1,4 @@
 -- `entry::propagate` meets its contract.
-use borrow.Author.Rules.{rules}
 use Rattle.drifters_entry.proofs.entry.propagate.Goals as goal
 
 pub returns : goal.returns

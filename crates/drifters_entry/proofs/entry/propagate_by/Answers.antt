@@ -1,5 +1,4 @@
 -- `entry::propagate_by` meets its contract.
-use borrow.Author.Rules.{rules}
 use Rattle.drifters_entry.specs.Entry.{performed}
 use Rattle.drifters_entry.proofs.entry.propagate_by.Goals as goal
 

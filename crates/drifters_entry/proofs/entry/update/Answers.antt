@@ -1,5 +1,4 @@
 -- `entry::update` meets its contract.
-use borrow.Author.Rules.{rules}
 use Rattle.drifters_entry.proofs.entry.update.Goals as goal
 
 pub returns : goal.returns

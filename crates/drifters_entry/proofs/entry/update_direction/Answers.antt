@@ -1,5 +1,4 @@
 -- `entry::update_direction` meets its contract.
-use borrow.Author.Rules.{rules}
 use Rattle.drifters_entry.proofs.entry.update_direction.Goals as goal
 
 pub returns : goal.returns

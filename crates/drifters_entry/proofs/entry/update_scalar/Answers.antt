@@ -1,5 +1,4 @@
 -- `entry::update_scalar` meets its contract.
-use borrow.Author.Rules.{rules}
 use Rattle.drifters_entry.proofs.entry.update_scalar.Goals as goal
 
 pub returns : goal.returns

@@ -1,5 +1,4 @@
 -- `entry::velocity` meets its contract.
-use borrow.Author.Rules.{rules}
 use Rattle.drifters_entry.proofs.entry.velocity.Goals as goal
 
 pub returns : goal.returns

@@ -1,6 +1,5 @@
 -- `entry::write_filter` meets its contract.
 use mathlib.Core.Bool.{true, false}
-use borrow.Author.Rules.{rules}
 use Rattle.drifters_entry.proofs.Calls.{checked_refused, checked_fine, checked_nis}
 use Rattle.std.proofs.Common.{ap, not}
 use Rattle.drifters_entry.proofs.entry.write_filter.Goals as goal

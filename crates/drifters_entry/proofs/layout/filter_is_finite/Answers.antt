@@ -2,7 +2,6 @@
 use mathlib.Core.Path.{◌≡◌}
 use mathlib.Core.Bool.{Bool, ◌&&◌}
 use mathlib.Core.List.{◌++◌}
-use borrow.Author.Rules.{rules}
 use Rattle.drifters_real.specs.Real.{is_finite}
 use Rattle.drifters_matrix.specs.Matrix.{all_finite}
 use Rattle.drifters_core.specs.Vec3.{to_array, finite_vec3}

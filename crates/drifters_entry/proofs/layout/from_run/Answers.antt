@@ -1,5 +1,4 @@
 -- `layout::from_run` meets its contract.
-use borrow.Author.Rules.{rules}
 use lib.ListN.{get_or}
 use lib.Ieee.{nan}
 use Rattle.drifters_entry.specs.Layout.{alpha_place, from_run}

@@ -1,5 +1,4 @@
 -- `layout::mat3_at` meets its contract.
-use borrow.Author.Rules.{rules}
 use Rattle.drifters_entry.proofs.layout.mat3_at.Goals as goal
 
 pub returns : goal.returns

@@ -1,5 +1,4 @@
 -- `layout::state_from_run` meets its contract.
-use borrow.Author.Rules.{rules}
 use Rattle.drifters_entry.specs.Layout.{from_run, state_from_run}
 use Rattle.drifters_entry.proofs.layout.state_from_run.Goals as goal
 

@@ -1,11 +1,8 @@
 -- `layout::store` meets its contract.
-use mathlib.Core.Path.{sym, ◌∙◌}
 use Prim.Native.Nat.{◌-◌}
-use native.Mathlib.Omega.{arith}
 use lib.Ieee.{nan}
 use lib.ListN.{length, get_or}
-use Rattle.drifters_matrix.proofs.Matrix.Tab.{tab_get_d}
-use Rattle.drifters_matrix.proofs.Matrix.Elements.{Mapped, mapped_none, mapped_set, mapped_done}
+use Rattle.drifters_matrix.proofs.Matrix.Elements.{Mapped}
 use Rattle.drifters_entry.proofs.layout.store.Given as goal
 
 abbrev pub invariant-loop-i : goal.invariant-loop-i

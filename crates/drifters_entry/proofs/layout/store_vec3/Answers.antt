@@ -1,7 +1,6 @@
 -- `layout::store_vec3` meets its contract.
 use mathlib.Core.Path.{◌≡◌, refl, ap}
 use mathlib.Core.List.{List, [], ◌∷◌}
-use borrow.Author.Rules.{rules}
 use lib.Ieee.{Float, nan}
 use lib.ListN.{length, get_or, set}
 use Rattle.drifters_matrix.specs.Matrix.{tab}

@@ -1,5 +1,4 @@
 -- `layout::symmetry_from_run` meets its contract.
-use borrow.Author.Rules.{rules}
 use Rattle.drifters_entry.specs.Layout.{from_run}
 use Rattle.drifters_entry.proofs.layout.symmetry_from_run.Goals as goal
 
