@@ -1,11 +1,10 @@
 -- `run::run_sheet` meets its contract.
 use mathlib.Core.Path.{◌≡◌, refl, sym, ap, ◌∙◌}
-use mathlib.Core.Bool.{true, true≢false}
+use mathlib.Core.Bool.{true≢false}
 use mathlib.Core.List.{List, ◌++◌}
 use mathlib.Core.Option.{Option, none, some}
 use Prim.Native.Nat.{ℕ, ◌+◌, ◌≤◌}
 use native.Mathlib.Omega.{arith}
-use borrow.Author.Rules.{rules}
 use lib.ListN.{length, take, drop, replicate, length-map}
 use lib.Seq.{take_at}
 use lib.Ieee.{Float}
@@ -20,8 +19,7 @@ use Rattle.call_sheet.specs.Text.{refused_line, numbers_of, lines_of, text_of, s
 use Rattle.call_sheet.proofs.Held.{sheets_held}
 use Rattle.call_sheet.proofs.TextLength.{is_length, number_in, room, no_room}
 use Rattle.call_sheet.proofs.SheetLayout.{read_fitting}
-use Rattle.call_sheet.proofs.run.run_sheet.Statement.{statement}
-use Rattle.call_sheet.proofs.run.run_sheet.Tie as tie
+use Rattle.call_sheet.proofs.run.run_sheet.Goals as goal
 
 -- the sheet that was read, as it stands in the runs
 record Read (s : List ℕ) (n : ℕ) (filter kinds numbers : List ℕ) : Type 0 where
@@ -82,86 +80,52 @@ module _ {s : List ℕ} {n : ℕ} {filter kinds numbers : List ℕ} (r : Read s 
 abbrev zeros : ℕ → List ℕ
 zeros n = replicate n 0
 
--- the runs after reading
-after-reading : (c : tie.After-read-sheet) →
-    let e = c.read-sheet in
-    runs e.result e.new.1.0 e.new.1.1.0 e.new.1.1.1.0
-    ≡ in_runs (read_sheet c.before.before.before.before.before.before.before.args.s.now) (zeros filter_length) (zeros most_calls) (zeros most_numbers)
-after-reading c =
-    c.read-sheet.ensures
-    ∙ read_fitting _ (zeros filter_length) (zeros most_calls) (zeros most_numbers) (record { filter_length_lem = refl; kinds_length = omega arith; numbers_length = omega arith })
+pub slice_bounds-kinds-end : goal.slice_bounds-kinds-end
+slice_bounds-kinds-end c =
+    omega (arith, few (was_read _ (zeros filter_length) (zeros most_calls) (zeros most_numbers) _ refl (c.read_sheet.ensures ∙ read_fitting _ (zeros filter_length) (zeros most_calls) (zeros most_numbers) (record { filter_length_lem = refl; kinds_length = omega arith; numbers_length = omega arith })) c.in-Length.is), c.read_sheet.auto.kinds)
 
--- the sheet that was read
-here : (c : tie.After-n) →
-    let e = c.before.before.before.before.before in
-    let last = e.read-sheet.new in
-    Read e.before.before.before.before.before.before.before.args.s.now c.n.given.0.0 last.1.0 last.1.1.0 last.1.1.1.0
-here c = was_read _ (zeros filter_length) (zeros most_calls) (zeros most_numbers) _ refl (after-reading c.before.before.before.before.before) c.n.given.1
+pub slice_bounds-run_calls-end-in-Length-2 : goal.slice_bounds-run_calls-end-in-Length-2
+slice_bounds-run_calls-end-in-Length-2 c =
+    sym c.read_sheet.auto.numbers
 
-array-share-prefix-kinds : tie.Need-array-share-prefix-kinds
-array-share-prefix-kinds c =
-    let n = c.before.before.before.before.before.before in
-    omega (arith, few (here n), n.before.before.before.before.before.read-sheet.auto.1.1.0)
-
-slice-aggregate-run-calls-3 : tie.Need-slice-aggregate-run-calls-3
-slice-aggregate-run-calls-3 c =
-    let n = c.before.before.before.before.before.before.before.before in
-    sym n.before.before.before.before.before.read-sheet.auto.1.1.1.0
-
-run-calls-requires : tie.Need-run-calls-requires
-run-calls-requires c κs =
-    let n = c.before.before.before.before.before.before.before.before.before in
-    let sheet = here n in
-    let test = n.before.before.before.before.before.before.before.before.before in
-    (ap is_some (back sheet), omega (arith, size sheet, few sheet, test.if1.false))
+pub run_calls-requires : goal.run_calls-requires
+run_calls-requires c =
+    let sheet = (was_read _ (zeros filter_length) (zeros most_calls) (zeros most_numbers) _ refl (c.read_sheet.ensures ∙ read_fitting _ (zeros filter_length) (zeros most_calls) (zeros most_numbers) (record { filter_length_lem = refl; kinds_length = omega arith; numbers_length = omega arith })) c.in-Length.is) in
+    (ap is_some (back sheet), omega (arith, size sheet, few sheet, c.if-text-lt-MOST_TEXT.false))
 
 -- the lines of the calls
-returns-2 : tie.Need-returns-2
-returns-2 c =
-    let ran = c.before.before.before in
-    let numbers = ran.before.before.before.before.before.before in
-    let n = numbers.before.before.before.before in
-    let test = n.before.before.before.before.before.before.before.before.before in
-    let a = test.before.before.before.args in
-    let size = n.before.before.before.before.before.read-sheet.auto.1.0 in
-    let lines = text (here n) (numbers.Numbers-of.ensures ∙ numbers_in_place _ _ (sym size)) in
-    let put = ran.run-calls in
+pub returns-in-Length : goal.returns-in-Length
+returns-in-Length c =
+    let a = c.args in
+    let size = c.read_sheet.auto.filter in
+    let lines = text (was_read _ (zeros filter_length) (zeros most_calls) (zeros most_numbers) _ refl (c.read_sheet.ensures ∙ read_fitting _ (zeros filter_length) (zeros most_calls) (zeros most_numbers) (record { filter_length_lem = refl; kinds_length = omega arith; numbers_length = omega arith })) c.in-Length.is) (c.numbers_of.ensures ∙ numbers_in_place _ _ (sym size)) in
+    let put = c.run_calls in
     (λ i. printed (Length ((put.ensures.0 ∙ ap length lines) i)) ((put.ensures.1 ∙ ap (placed a.text.now 0) lines) i))
-    ∙ sym (room a.s.now a.text.now test.if1.false)
+    ∙ sym (room a.s.now a.text.now c.if-text-lt-MOST_TEXT.false)
 
 -- the line of a sheet that is refused
-returns-3 : tie.Need-returns-3
-returns-3 c =
-    let put = c.before.before.Put-refused in
-    let n = c.before.before.before.before.before in
-    let e = n.before.before.before.before.before in
-    let test = e.before.before.before.before in
-    let a = test.before.before.before.args in
-    let line = was-refused a.s.now (zeros filter_length) (zeros most_calls) (zeros most_numbers) (read_sheet a.s.now) refl (after-reading e) n.n2.given.1 in
+pub returns-in-Refused : goal.returns-in-Refused
+returns-in-Refused c =
+    let put = c.put_refused in
+    let a = c.args in
+    let line = was-refused a.s.now (zeros filter_length) (zeros most_calls) (zeros most_numbers) (read_sheet a.s.now) refl (c.read_sheet.ensures ∙ read_fitting _ (zeros filter_length) (zeros most_calls) (zeros most_numbers) (record { filter_length_lem = refl; kinds_length = omega arith; numbers_length = omega arith })) c.in-Refused.is in
     (λ i. printed (Length ((put.ensures.0 ∙ ap length line) i)) ((put.ensures.1 ∙ ap (placed a.text.now 0) line) i))
-    ∙ sym (room a.s.now a.text.now test.if1.false)
+    ∙ sym (room a.s.now a.text.now c.if-text-lt-MOST_TEXT.false)
 
-pub run-sheet-spec : {M : Type 1} → statement M
-run-sheet-spec =
-    tie.close
-    (tie.spec
-    (λ c. sym (no_room _ _ c.if1.true))
-    (λ c. refl)
-    (λ c. refl)
-    (λ c. refl)
-    (λ c κs. tt)
-    (λ c. search rules)
-    (λ c. sym c.before.before.before.before.before.before.before.read-sheet.auto.1.0)
-    (λ c. refl)
-    (λ c κs. tt)
-    (λ c. sym c.before.before.Numbers-of.auto.1.0)
-    array-share-prefix-kinds
-    (λ c. sym (size (here c.before.before.before.before.before.before.before)))
-    slice-aggregate-run-calls-3
-    run-calls-requires
-    (λ c. search rules)
-    (λ c κs. omega arith)
-    (λ c. c.before.before.before.run-calls.auto.1.1.1.0)
-    returns-2
-    (λ c. c.before.before.Put-refused.auto.0)
-    returns-3)
+pub returns-then-text-lt-MOST_TEXT : goal.returns-then-text-lt-MOST_TEXT
+returns-then-text-lt-MOST_TEXT c = sym (no_room _ _ c.if-text-lt-MOST_TEXT.true)
+
+pub slice_bounds-numbers_of-end : goal.slice_bounds-numbers_of-end
+slice_bounds-numbers_of-end c = sym c.read_sheet.auto.filter
+
+pub slice_bounds-run_calls-end : goal.slice_bounds-run_calls-end
+slice_bounds-run_calls-end c = sym c.numbers_of.auto.out
+
+pub slice_bounds-run_calls-end-in-Length : goal.slice_bounds-run_calls-end-in-Length
+slice_bounds-run_calls-end-in-Length c = sym (size (was_read _ (zeros filter_length) (zeros most_calls) (zeros most_numbers) _ refl (c.read_sheet.ensures ∙ read_fitting _ (zeros filter_length) (zeros most_calls) (zeros most_numbers) (record { filter_length_lem = refl; kinds_length = omega arith; numbers_length = omega arith })) c.in-Length.is))
+
+pub shape_of-text-in-Length : goal.shape_of-text-in-Length
+shape_of-text-in-Length c = c.run_calls.auto.text
+
+pub shape_of-text-in-Refused : goal.shape_of-text-in-Refused
+shape_of-text-in-Refused c = c.put_refused.auto.text

@@ -7,8 +7,7 @@ use native.Mathlib.Omega.{arith}
 use lib.ListN.{length, take, drop, replicate, length-take, length-replicate}
 use Rattle.call_sheet.specs.Digits.{digits, decimal}
 use Rattle.call_sheet.specs.Text.{refused_text}
-use Rattle.call_sheet.proofs.text.refused_text.Statement.{statement}
-use Rattle.call_sheet.proofs.text.refused_text.Tie as tie
+use Rattle.call_sheet.proofs.text.refused_text.Goals as goal
 
 -- `refused `
 abbrev word : List ℕ
@@ -39,25 +38,19 @@ text-length k n e = omega arith
 lent : (k : ℕ) → k ≤ 3 → length (take (8 + k - 8) (zeros 8)) ≡ k
 lent k h = simp (length-take, length-replicate) (omega arith)
 
-returns : tie.Need-returns
+pub returns : goal.returns
 returns c =
-    let put = c.before.put-digits in
-    let found = c.before.before.before.decimal-length in
-    let n = c.before.before.before.before.args.n in
+    let put = c.put_digits in
+    let found = c.decimal_length-length in
+    let n = c.args.n in
     let k = found.result in
     let places = lent k found.ensures.1 in
-    let number : put.new.0 ≡ decimal n = put.ensures ∙ ap (λ (j : ℕ). digits 10 j n) places ∙ sym found.ensures.0 in
-    let count : length (decimal n) ≡ k = sym (ap length number) ∙ put.auto.0 ∙ places in
-    (text-length k n count, (text k n put.new.0 number, omega (arith, found.ensures.1)))
+    let number : put.new.out ≡ decimal n = put.ensures ∙ ap (λ (j : ℕ). digits 10 j n) places ∙ sym found.ensures.0 in
+    let count : length (decimal n) ≡ k = sym (ap length number) ∙ put.auto.out ∙ places in
+    (text-length k n count, (text k n put.new.out number, omega (arith, found.ensures.1)))
 
-pub refused-text-spec : {M : Type 1} → statement M
-refused-text-spec =
-    tie.close
-    (tie.spec
-    (λ c κs. tt)
-    (λ c. omega (arith, c.decimal-length.ensures.1))
-    (λ c. omega arith)
-    (λ c. omega arith)
-    (λ c. omega (arith, c.decimal-length.ensures.1))
-    (λ c κs. omega arith)
-    returns)
+pub overflow_add-length : goal.overflow_add-length
+overflow_add-length c = omega (arith, c.decimal_length-length.ensures.1)
+
+pub slice_bounds-bytes-end : goal.slice_bounds-bytes-end
+slice_bounds-bytes-end c = omega (arith, c.decimal_length-length.ensures.1)

@@ -3,10 +3,9 @@ use mathlib.Core.Path.{◌≡◌, refl, sym, ap, ◌∙◌}
 use mathlib.Core.Bool.{true}
 use mathlib.Core.List.{List, [], ◌++◌, append_assoc, append-nil}
 use mathlib.Core.Option.{some, some-injective}
-use Prim.Native.Nat.{ℕ, ◌+◌, ◌-◌, ◌*◌, ◌≤◌, ◌<◌}
+use Prim.Native.Nat.{ℕ, ◌+◌, ◌-◌, ◌≤◌, ◌<◌}
 use native.Mathlib.Nat.{zero-add}
 use native.Mathlib.Omega.{arith}
-use borrow.Author.Rules.{rules}
 use lib.ListN.{length, get_or, take, drop, length-drop, drop_of_length-le}
 use lib.Seq.{drop-drop}
 use lib.Ieee.{Float}
@@ -19,28 +18,9 @@ use Rattle.call_sheet.specs.Sheet.{SheetCall, sheet_call, is_some, calls_in}
 use Rattle.call_sheet.specs.Text.{call_of, line_text, lines_text, lines_of}
 use Rattle.call_sheet.proofs.Lines.{lines_on, Taken, calls_next}
 use Rattle.call_sheet.proofs.SheetLayout.{no_some, some_found}
-use Rattle.little_endian.proofs.Placed.{Put, put_none, put_then}
-use Rattle.call_sheet.proofs.run.run_calls.Statement.{statement}
-use Rattle.call_sheet.proofs.run.run_calls.Tie as tie
-
--- the lines of the first i calls stand at the front of `text`, and `run` is the filter that these calls left
-record Made (run₀ : List Float) (kinds numbers text₀ : List ℕ) (run : List Float) (text : List ℕ) (at len i : ℕ) : Type 0 where
-  within : i ≤ length kinds
-  there : at ≤ length numbers
-  room : len ≤ 23 * i
-  run_length : length run ≡ length run₀
-  text-length : length text ≡ length text₀
-  lines : List ℕ
-  written : Put text₀ 0 lines text len
-  left : List SheetCall
-  is-left : calls_in (drop i kinds) (drop at numbers) ≡ some left
-  all : lines_of run₀ (calls_in kinds numbers) ≡ lines ++ lines_on (i + 1) run left
-
-abbrev invariant-loop : tie.invariant-loop
-invariant-loop run₀ kinds numbers text₀ at₀ len₀ i₀ i-end run text at len i = Made run₀ kinds numbers text₀ run text at len i
-
-abbrev decreases-loop : tie.decreases-loop
-decreases-loop run₀ kinds numbers text₀ at₀ len₀ i₀ i-end run text at len i = length kinds - i
+use Rattle.little_endian.proofs.Placed.{put_none, put_then}
+use Rattle.call_sheet.proofs.run.run_calls.Invariants.{Made}
+use Rattle.call_sheet.proofs.run.run_calls.Goals as goal
 
 -- no call is made
 none_made : (run : List Float) (kinds numbers text : List ℕ) → is_some (calls_in kinds numbers) ≡ true → Made run kinds numbers text run text 0 0 0
@@ -126,91 +106,62 @@ one-made {run₀} {run} {run'} {kinds} {numbers} {text₀} {text} {text'} {at} {
           ∙ sym (λ j. m.lines ++ line_text (i + 1) (same j) (is-answer j) ++ lines_on (i + 1 + 1) (is-run j) next.rest);
     }
 
--- the kind of the call
-is_kind : (c : tie.After-kind invariant-loop decreases-loop) →
-    let l = c.before.before.before.before.before in
-    kind_of (get_or l.before.before.before.before.before.args.kinds.now l.loop.i 0) ≡ some c.kind.given.0.0
-is_kind c = sym c.before.before.kind-of.ensures ∙ ap found c.kind.given.1
-
--- the numbers of a call lie within those of all
-inside : (c : tie.After-call-length invariant-loop decreases-loop) →
-    let l = c.before.before.before.before.before.before.before in
-    l.loop.at + c.Call-length.result ≤ length l.before.before.before.before.before.args.numbers.now
-inside c =
-    let kind = c.before.before in
-    let test = kind.before.before.before.before in
-    omega (arith, c.Call-length.ensures, next-within test.before.loop.invariant test.loop-test.true (is_kind kind))
-
 -- no number is of no kind
-returns : tie.Need-returns invariant-loop decreases-loop
-returns c =
-    let kind = c.before.before in
-    let test = kind.before.before in
-    no_some (sym (ap found c.enum_told.given.1) ∙ kind.kind-of.ensures ∙ (next-left test.before.loop.invariant test.loop-test.true).is_kind)
+pub returns-in_default : goal.returns-in_default
+returns-in_default c =
+    no_some (sym (ap found c.in_default.is) ∙ c.kind_of.ensures ∙ (next-left c.loop-i.invariant c.loop-i-test.true).is_kind)
 
 -- a call is made with as many bits as its kind asks for
-run-call-requires : tie.Need-run-call-requires invariant-loop decreases-loop
-run-call-requires c κs = omega (arith, c.run-call-arg2.given.2, c.before.before.Call-length.ensures)
+pub run_call-answer-requires : goal.run_call-answer-requires
+run_call-answer-requires c = omega (arith, c.in-Known.is, c.call_length.ensures)
 
 -- there is room for one more line
-put-line-requires : tie.Need-put-line-requires invariant-loop decreases-loop
-put-line-requires c κs =
-    let l = c.before.before.before.before.before.before.before.before.before.before.before.before.before in
-    omega (arith, l.loop.invariant.room, l.loop.invariant.text-length, l.before.before.before.before.before.requires.1)
+pub put_line-length-requires : goal.put_line-length-requires
+put_line-length-requires c =
+    omega (arith, c.loop-i.invariant.room, c.loop-i.invariant.text-length, c.requires.1)
 
-loop-again : tie.Need-loop-preserved invariant-loop decreases-loop
-loop-again c =
-    let line = c.before.before.put-line in
-    let made = c.before.before.before.before.before.before in
-    let count = made.before.before.before in
-    let kind = count.before.before in
-    let test = kind.before.before.before.before in
-    one-made test.before.loop.invariant test.loop-test.true
+pub loop-i-preserved : goal.loop-i-preserved
+loop-i-preserved c =
+    let line = c.put_line-length in
+    one-made c.loop-i.invariant c.loop-i-test.true
     (record {
-      is_kind = is_kind kind;
-      is-length = count.Call-length.ensures;
-      is-answer = made.run_call.ensures.0;
-      is-run = made.run_call.ensures.1;
+      is_kind = (let it : kind_of (get_or c.args.kinds.now c.loop-i.i 0) ≡ some c.in-Known.kind = sym c.kind_of.ensures ∙ ap found c.in-Known.is in it);
+      is-length = c.call_length.ensures;
+      is-answer = c.run_call-answer.ensures.0;
+      is-run = c.run_call-answer.ensures.1;
       is-text = line.ensures.1.0;
       is-end = line.ensures.0;
       short = line.ensures.1.1;
-      run-kept = made.run_call.auto.1.0;
-      text-kept = line.auto.0;
+      run-kept = c.run_call-answer.auto.run;
+      text-kept = line.auto.out;
     })
 
-returns-2 : tie.Need-returns-2 invariant-loop decreases-loop
-returns-2 c =
-    let m = c.before.loop.invariant in
-    let lines = all_made m c.loop-test.false in
+pub returns : goal.returns
+returns c =
+    let m = c.loop-i.invariant in
+    let lines = all_made m c.loop-i-test.false in
     (m.written.until ∙ zero-add _ ∙ ap length lines, m.written.is ∙ ap (placed _ 0) lines)
 
-pub run-calls-spec : {M : Type 1} → statement M
-run-calls-spec =
-    tie.close
-    (tie.spec
-    invariant-loop
-    decreases-loop
-    (λ c. none_made _ _ _ _ c.before.before.before.before.requires.0)
-    (λ c. search rules)
-    (λ c. search rules)
-    (λ c κs. search rules)
-    (λ c. search rules)
-    (λ c. search rules)
-    (λ c. c.before.before.before.before.before.loop.invariant.run_length)
-    (λ c. c.before.before.before.before.before.loop.invariant.text-length)
-    returns
-    (λ c κs. search rules)
-    (λ c. let h = inside c in omega arith)
-    (λ c. let h = inside c.before in omega arith)
-    (λ c. omega arith)
-    (λ c. omega arith)
-    (λ c. inside c.before)
-    run-call-requires
-    (λ c. search rules)
-    put-line-requires
-    (λ c. search rules)
-    (λ c. search rules)
-    loop-again
-    (λ c. c.before.loop.invariant.run_length)
-    (λ c. c.before.loop.invariant.text-length)
-    returns-2)
+pub loop-i-init : goal.loop-i-init
+loop-i-init c = none_made _ _ _ _ c.requires.0
+
+pub shape_of-run-in_default : goal.shape_of-run-in_default
+shape_of-run-in_default c = c.loop-i.invariant.run_length
+
+pub shape_of-text-in_default : goal.shape_of-text-in_default
+shape_of-text-in_default c = c.loop-i.invariant.text-length
+
+pub overflow_add-end : goal.overflow_add-end
+overflow_add-end c = let h = (let it : c.loop-i.at + c.call_length.result ≤ length c.args.numbers.now = omega (arith, c.call_length.ensures, next-within c.loop-i.invariant c.loop-i-test.true (let it : kind_of (get_or c.args.kinds.now c.loop-i.i 0) ≡ some c.in-Known.kind = sym c.kind_of.ensures ∙ ap found c.in-Known.is in it)) in it) in omega arith
+
+pub offset_bounds-numbers-at : goal.offset_bounds-numbers-at
+offset_bounds-numbers-at c = let h = (let it : c.loop-i.at + c.call_length.result ≤ length c.args.numbers.now = omega (arith, c.call_length.ensures, next-within c.loop-i.invariant c.loop-i-test.true (let it : kind_of (get_or c.args.kinds.now c.loop-i.i 0) ≡ some c.in-Known.kind = sym c.kind_of.ensures ∙ ap found c.in-Known.is in it)) in it) in omega arith
+
+pub slice_bounds-run_call-end : goal.slice_bounds-run_call-end
+slice_bounds-run_call-end c = (let it : c.loop-i.at + c.call_length.result ≤ length c.args.numbers.now = omega (arith, c.call_length.ensures, next-within c.loop-i.invariant c.loop-i-test.true (let it : kind_of (get_or c.args.kinds.now c.loop-i.i 0) ≡ some c.in-Known.kind = sym c.kind_of.ensures ∙ ap found c.in-Known.is in it)) in it)
+
+pub shape_of-run : goal.shape_of-run
+shape_of-run c = c.loop-i.invariant.run_length
+
+pub shape_of-text : goal.shape_of-text
+shape_of-text c = c.loop-i.invariant.text-length

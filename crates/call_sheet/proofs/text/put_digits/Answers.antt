@@ -7,13 +7,8 @@ use native.Mathlib.Omega.{arith}
 use lib.ListN.{length, drop, set, length-set}
 use lib.Seq.{drop-cons, drop-length, drop-set-lt, get_or-set_same}
 use Rattle.call_sheet.specs.Digits.{digit, digits}
-use Rattle.call_sheet.proofs.text.put_digits.Statement.{statement}
-use Rattle.call_sheet.proofs.text.put_digits.Tie as tie
-
--- the text t is the j digits of m that are still to be put, then what stands in `out` from place j on
-record Put (base : ℕ) (t out : List ℕ) (m j : ℕ) : Type 0 where
-  within : j ≤ length out
-  is : t ≡ digits base j m ++ drop j out
+use Rattle.call_sheet.proofs.text.put_digits.Invariants.{Put}
+use Rattle.call_sheet.proofs.text.put_digits.Goals as goal
 
 -- none is put
 start : (base : ℕ) (out : List ℕ) (n : ℕ) → Put base (digits base (length out) n) out n (length out)
@@ -46,41 +41,24 @@ done {base} {t} {out} {m} {j} h z =
     let none : j ≡ 0 = omega arith in
     sym (h.is ∙ ap (λ (k : ℕ). digits base k m ++ drop k out) none)
 
-abbrev invariant-loop : tie.invariant-loop
-invariant-loop out₀ n base m₀ j₀ out m j = (length out ≡ length out₀) × Put base (digits base (length out₀) n) out m j
-
-abbrev decreases-loop : tie.decreases-loop
-decreases-loop out₀ n base m₀ j₀ out m j = j
-
 -- a rest is below the base, and the base at most 16
-digit-requires : tie.Need-digit-requires invariant-loop decreases-loop
-digit-requires c κs =
-    let base = c.before.before.before.args.base in
-    let some : 0 < base = omega (arith, c.before.before.before.requires) in
-    let less : c.before.loop.m % base < base = mod-lt c.before.loop.m some in
-    omega (arith, c.before.before.before.requires)
+pub digit-requires : goal.digit-requires
+digit-requires c =
+    let base = c.args.base in
+    let some : 0 < base = omega (arith, c.requires) in
+    let less : c.loop-j.m % base < base = mod-lt c.loop-j.m some in
+    omega (arith, c.requires)
 
-loop-again : tie.Need-loop-preserved invariant-loop decreases-loop
-loop-again c =
-    let loop = c.before.before.loop in
-    (simp length-set loop.invariant.0, put loop.invariant.1 c.before.loop-test.true c.digit.ensures)
+pub loop-j-preserved : goal.loop-j-preserved
+loop-j-preserved c =
+    let loop = c.loop-j in
+    (simp length-set loop.invariant.0, put loop.invariant.1 c.loop-j-test.true c.digit.ensures)
 
-returns : tie.Need-returns invariant-loop decreases-loop
-returns c = done c.before.loop.invariant.1 (omega arith)
+pub returns : goal.returns
+returns c = done c.loop-j.invariant.1 (omega arith)
 
-pub put-digits-spec : {M : Type 1} → statement M
-put-digits-spec =
-    tie.close
-    (tie.spec
-    invariant-loop
-    decreases-loop
-    (λ c. (refl, start _ _ _))
-    (λ c. omega arith)
-    (λ c. omega arith)
-    digit-requires
-    (λ c. omega arith)
-    (λ c. omega arith)
-    (λ c. omega arith)
-    loop-again
-    (λ c. c.before.loop.invariant.0)
-    returns)
+pub loop-j-init : goal.loop-j-init
+loop-j-init c = (refl, start _ _ _)
+
+pub shape_of-out : goal.shape_of-out
+shape_of-out c = c.loop-j.invariant.0

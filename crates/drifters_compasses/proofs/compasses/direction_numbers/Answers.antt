@@ -12,8 +12,7 @@ use Rattle.drifters_matrix.specs.Matrix.{tab}
 use Rattle.drifters_entry.specs.Layout.{part}
 use Rattle.drifters_entry.proofs.Parts.{tab_part}
 use Rattle.drifters_compasses.specs.Compasses.{north_noise_length, direction_numbers}
-use Rattle.drifters_compasses.proofs.compasses.direction_numbers.Statement.{statement}
-use Rattle.drifters_compasses.proofs.compasses.direction_numbers.Tie as tie
+use Rattle.drifters_compasses.proofs.compasses.direction_numbers.Goals as goal
 
 -- three numbers of a run from a place on, as a part
 three-part : (v : List Float) (at : ℕ) → at + 3 ≤ length v → get_or v at nan ∷ get_or v (at + 1) nan ∷ get_or v (at + 2) nan ∷ [] ≡ part v at 3
@@ -24,35 +23,7 @@ three-part v at h = ap (λ (k : ℕ). get_or v k nan ∷ get_or v (at + 1) nan �
 numbers-are : (v : List Float) → length v ≡ north_noise_length → tab north_noise_length (λ k. get_or v (0 + k) nan) ≡ v
 numbers-are v h = tab_part v 0 north_noise_length (omega arith) ∙ take_all north_noise_length v (omega arith)
 
-returns : tie.Need-returns
+pub returns : goal.returns
 unfolding direction_numbers tab
 returns c =
-    let start = c.before.before.before.before.before.before.before.before.before.before.before.before.before.before.before in
-    ap₂ ◌++◌ (three-part _ _ start.requires.0) (numbers-are _ start.requires.1)
-
-pub direction-numbers-spec : {M : Type 1} → statement M
-direction-numbers-spec =
-    tie.close
-    (tie.spec
-    (λ c. search rules)
-    (λ c. search rules)
-    (λ c. search rules)
-    (λ c. search rules)
-    (λ c. search rules)
-    (λ c. search rules)
-    (λ c. search rules)
-    (λ c. search rules)
-    (λ c. search rules)
-    (λ c. search rules)
-    (λ c. search rules)
-    (λ c. search rules)
-    (λ c. search rules)
-    (λ c. search rules)
-    (λ c. search rules)
-    (λ c. search rules)
-    (λ c. search rules)
-    (λ c. search rules)
-    (λ c. search rules)
-    (λ c. search rules)
-    (λ c. search rules)
-    returns)
+    ap₂ ◌++◌ (three-part _ _ c.requires.0) (numbers-are _ c.requires.1)
