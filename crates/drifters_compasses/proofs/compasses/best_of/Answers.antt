@@ -1,15 +1,8 @@
 -- `compasses::best_of` meets its contract.
-use Prim.Native.Nat.{ℕ, ◌-◌, ◌≤◌}
 use mathlib.Core.Path.{◌≡◌, refl, ap, ◌∙◌}
-use mathlib.Core.List.{List}
 use native.Mathlib.Omega.{arith}
-use lib.ListN.{length}
-use lib.Ieee.{Float}
-use Rattle.drifters_compasses.specs.Compasses.{attempt, best_of}
-use Rattle.drifters_compasses.specs.Kept.{best_try}
-use Rattle.drifters_compasses.specs.declared.compasses.Best.{Best}
+use Rattle.drifters_compasses.specs.Compasses.{best_of}
 use Rattle.drifters_compasses.proofs.Tries.{best_next}
-use Rattle.drifters_compasses.proofs.compasses.best_of.Invariants.{Kept}
 use Rattle.drifters_compasses.proofs.compasses.best_of.Goals as goal
 
 pub loop-i-init : goal.loop-i-init

@@ -1,14 +1,12 @@
 -- `compasses::best_of` meets its contract.
 use Prim.Native.Nat.{ℕ, ◌-◌, ◌≤◌}
-use mathlib.Core.Path.{◌≡◌, refl, ap, ◌∙◌}
+use mathlib.Core.Path.{◌≡◌}
 use mathlib.Core.List.{List}
-use native.Mathlib.Omega.{arith}
 use lib.ListN.{length}
 use lib.Ieee.{Float}
 use Rattle.drifters_compasses.specs.Compasses.{attempt, best_of}
 use Rattle.drifters_compasses.specs.Kept.{best_try}
 use Rattle.drifters_compasses.specs.declared.compasses.Best.{Best}
-use Rattle.drifters_compasses.proofs.Tries.{best_next}
 use Rattle.drifters_compasses.proofs.compasses.best_of.Given as goal
 
 -- the best of the first i is kept, with the filter that it left

@@ -1,7 +1,6 @@
 -- `compasses::takes_place` meets its contract.
 use mathlib.Core.Path.{sym, ap}
 use mathlib.Core.List.{[]}
-use borrow.Author.Rules.{rules}
 use Rattle.drifters_compasses.specs.Compasses.{takes_place}
 use Rattle.drifters_compasses.specs.Kept.{best_try}
 use Rattle.drifters_compasses.specs.declared.compasses.Best.{Best}
