@@ -57,16 +57,20 @@ module _ (s : Signs) where
       → Forall₂ EqualEntry (entries_from run calls) (map (turn_entry s) (entries_from run' calls'))
   unfolding entries_from
   entries_turned [] [] r Forall₂.nil = Forall₂.nil
-  entries_turned {run} (c ∷ cs) (d ∷ ds) r (Forall₂.cons h hs) =
+  entries_turned [] (d ∷ ds) r h = elim h [ ]
+  entries_turned (c ∷ cs) [] r h = elim h [ ]
+  entries_turned {run} {run'} (c ∷ cs) (d ∷ ds) r (Forall₂.cons h hs) =
       let o = outcome_turned c d r h in
       Forall₂.cons record { called = h; answer = equal_answer (written_size run c) o.answer o.written; left = turned_equal o.run }
-      (entries_turned cs ds o.run hs)
+      (entries_turned {run = (outcome_on run c).run} {run' = (outcome_on run' d).run} cs ds o.run hs)
 
   -- the calls stand in the entries
   calls_of : (run run' : List Float) (calls calls' : List Call) → Forall₂ EqualEntry (entries_from run calls) (map (turn_entry s) (entries_from run' calls'))
       → Forall₂ EqualCall calls (map (turn_call s) calls')
   unfolding entries_from
   calls_of run run' [] [] Forall₂.nil = Forall₂.nil
+  calls_of run run' [] (d ∷ ds) h = elim h [ ]
+  calls_of run run' (c ∷ cs) [] h = elim h [ ]
   calls_of run run' (c ∷ cs) (d ∷ ds) (Forall₂.cons h hs) = Forall₂.cons h.called (calls_of (outcome_on run c).run (outcome_on run' d).run cs ds hs)
 
 pub demand3 : Demand3

@@ -8,7 +8,7 @@ use native.Mathlib.Omega.{arith}
 use lib.Dec.{lit<}
 use lib.ListN.{get_or}
 use lib.Ieee.{Float, nan, lt, of_bits}
-use Rattle.drifters_real.specs.Scalar.{◌⊗◌, plus_zero}
+use Rattle.drifters_real.specs.Scalar.{◌⊗◌, plus_zero, two, half}
 use Rattle.drifters_real.specs.Real.{sqrt}
 use Rattle.drifters_matrix.specs.Matrix.{set_block}
 use Rattle.drifters_core.specs.Vec3.{to_array, mul_mat3_vec3}
@@ -213,15 +213,15 @@ like_scaled_se3 h k = record { omega = like_mul_vec3 h.omega k; nu = like_mul_ve
 pub like_halvings : {s : Signs} {w w' : Se3Tangent} (n : ℕ) → LikeSe3Tangent s w w' → halvings n w ≡ halvings n w'
 unfolding halvings
 like_halvings zero h = refl
-like_halvings (suc n) h =
+like_halvings {s = s} {w = w} {w' = w'} (suc n) h =
     cond_keeps (λ (p q : ℕ). p ≡ q) (like_lt (like_refl {x = sixteenth}) (like_max (like_amax_vec3 h.omega) (like_amax_vec3 h.nu)))
-    (λ e. ap suc (like_halvings n (like_scaled_se3 h like_refl)))
+    (λ e. ap suc (like_halvings {s = s} {w = scaled_se3 w half} {w' = scaled_se3 w' half} n (like_scaled_se3 h like_refl)))
     (λ e. refl)
 
 pub like_halved : {s : Signs} {w w' : Se3Tangent} (n : ℕ) → LikeSe3Tangent s w w' → LikeSe3Tangent s (halved n w) (halved n w')
 unfolding halved
 like_halved zero h = h
-like_halved (suc n) h = like_halved n (like_scaled_se3 h like_refl)
+like_halved {s = s} {w = w} {w' = w'} (suc n) h = like_halved {s = s} {w = scaled_se3 w half} {w' = scaled_se3 w' half} n (like_scaled_se3 h like_refl)
 
 module _ {σ : ℕ → Bool} {m m' : List Float} (h : LikeMatrix σ σ 6 6 m m') where
   pub like_series_term : (k : ℕ) → LikeMatrix σ σ 6 6 (series_term m k) (series_term m' k)
@@ -238,8 +238,8 @@ pub like_doubled : {s : Signs} {w w' : Se3Tangent} {psi psi' : List Float} (n : 
     → LikeMatrix (axis s) (axis s) 6 6 (doubled n w psi) (doubled n w' psi')
 unfolding doubled
 like_doubled zero h k = k
-like_doubled (suc n) h k =
-    like_doubled n (like_scaled_se3 h like_refl)
+like_doubled {s = s} {w = w} {w' = w'} {psi = psi} {psi' = psi'} (suc n) h k =
+    like_doubled {s = s} {w = scaled_se3 w two} {w' = scaled_se3 w' two} n (like_scaled_se3 h like_refl)
     (scaled_of (like_matmul (add_matrix_of like_identity refl (like_adjoint_se3 (like_exp_se3 h))) k) refl like_refl)
 
 pub like_integrated_adjoint : {s : Signs} {v v' : Se3Tangent} → LikeSe3Tangent s v v' → LikeMatrix (axis s) (axis s) 6 6 (integrated_adjoint v) (integrated_adjoint v')

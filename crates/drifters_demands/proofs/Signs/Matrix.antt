@@ -12,7 +12,7 @@ use lib.ListN.{length, get_or, replicate, get_or-replicate}
 use lib.Ieee.{Float, nan, unlike, eq}
 use Rattle.drifters_real.specs.Scalar.{◌⊗◌, plus_zero, one}
 use Rattle.drifters_real.specs.Real.{is_finite}
-use Rattle.drifters_matrix.specs.Matrix.{tab, at, matrix, zeros, transpose, sum_terms, matmul, mul_transpose, scaled, block_fits, in_block, set_block, all_finite, larger, from_diagonal, identity, mean, symmetrize, add_matrix, sub_matrix, neg_matrix}
+use Rattle.drifters_matrix.specs.Matrix.{tab, matrix, zeros, transpose, sum_terms, matmul, mul_transpose, scaled, block_fits, in_block, set_block, all_finite, larger, from_diagonal, identity, mean, symmetrize, add_matrix, sub_matrix, neg_matrix}
 use Rattle.drifters_core.specs.Vec3.{row_times, mul_mat3_vec3}
 use Rattle.drifters_cholesky.specs.Cholesky.{sub_terms}
 use Rattle.drifters_demands.specs.Like.{Like, LikeList, LikeVec3, LikeMatrix}

@@ -1,7 +1,6 @@
 -- `drifters_normalized` meets its contract.
-use mathlib.Core.Path.{◌≡◌, refl, sym, ap, ◌∙◌}
+use mathlib.Core.Path.{refl, sym, ap, ◌∙◌}
 use mathlib.Core.List.{List}
-use borrow.Author.Rules.{rules}
 use lib.Ieee.{Float}
 use Rattle.drifters_core.specs.Vec3.{from_array, normalized}
 use Rattle.drifters_core.specs.declared.math.vec3.Normalized.TheVariants.{Unit}
