@@ -7,6 +7,9 @@ use drifters_lie::lie::{Se3, Se3Tangent};
 use drifters_matrix::math::shapes::Mat6;
 use drifters_real::math::real::max;
 
+// The most halvings made.
+const MOST_HALVINGS: usize = 64;
+
 // An element of se(3) after halvings, and their number.
 #[derive(Clone, Copy)]
 struct Halved {
@@ -14,13 +17,13 @@ struct Halved {
     halvings: usize,
 }
 
-// Halved while the larger `amax` is above 0.0625, at most 64 times.
+// Halved while the larger `amax` is above 0.0625, at most MOST_HALVINGS times.
 fn halve(v: Se3Tangent) -> Halved
     ensures { (result.halvings ≡ halvings most_halvings v) × (result.w ≡ halved (halvings most_halvings v) v) }
 {
     let mut n = 0;
     let mut w = v;
-    while max(w.omega.amax(), w.nu.amax()) > 0.0625 && n < 64 {
+    while max(w.omega.amax(), w.nu.amax()) > 0.0625 && n < MOST_HALVINGS {
         w = Se3Tangent::new(w.omega.mul(0.5), w.nu.mul(0.5));
         n += 1;
     }

@@ -32,3 +32,9 @@ module _ (K : Kind) (run v : List Float) (r : Asked) {kind : Kind} (told : kind 
       → measurement 3 z (part v n 9) (from_run run).alpha ≡ request_of K (from_run run) v → length v ≡ call_length kind → n + 9 ≤ call_length K → Asks
   measured_asked m n e is asks l reads =
       rw (e, told) (ap (λ (y : Measurement). measurement 3 y (part v n 9) (from_run run).alpha) is ∙ asks, rw (l ∙ ap call_length told) reads)
+
+  -- the same, of the measurement that the answer has
+  pub measured_asked_by : (n : ℕ) {z : Measurement} → r.action ≡ Update3 → r.noise ≡ n → measurement3 r.measurement ≡ z
+      → measurement 3 z (part v n 9) (from_run run).alpha ≡ request_of K (from_run run) v → length v ≡ call_length kind → n + 9 ≤ call_length K → Asks
+  measured_asked_by n a k is asks l reads =
+      measured_asked r.measurement n (λ i. record { action = a i; measurement = r.measurement; noise = k i }) is asks l reads

@@ -64,12 +64,12 @@ done {most} {n} {v} {w} h e = (omega (arith, h.count, e), sym (h.value ∙ rw e 
 pub loop-w-preserved : goal.loop-w-preserved
 loop-w-preserved c =
     let above = ap (lt sixteenth) (size_is c.loop-w.w c.amax.ensures c.amax-in-loop-w.ensures c.max.ensures) ∙ c.loop-w-test.true in
-    let fewer = c.if-n-lt64.true in
+    let fewer = c.if-n-lt-MOST_HALVINGS.true in
     next c.loop-w.invariant fewer above (c.new-w.ensures ∙ (λ i. record { omega = c.mul.ensures i; nu = c.mul-in-loop-w.ensures i }))
 
-pub returns-else-n-lt64 : goal.returns-else-n-lt64
-returns-else-n-lt64 c =
-    let left : most_halvings - c.loop-w.n ≡ 0 = omega (arith, c.if-n-lt64.false) in
+pub returns-else-n-lt-MOST_HALVINGS : goal.returns-else-n-lt-MOST_HALVINGS
+returns-else-n-lt-MOST_HALVINGS c =
+    let left : most_halvings - c.loop-w.n ≡ 0 = omega (arith, c.if-n-lt-MOST_HALVINGS.false) in
     done c.loop-w.invariant (rw left (halvings-zero c.loop-w.w))
 
 pub returns-after-loop-w : goal.returns-after-loop-w
@@ -81,4 +81,4 @@ pub loop-w-init : goal.loop-w-init
 loop-w-init c = start _ _
 
 pub loop-w-smaller : goal.loop-w-smaller
-loop-w-smaller c = omega (arith, c.if-n-lt64.true)
+loop-w-smaller c = omega (arith, c.if-n-lt-MOST_HALVINGS.true)

@@ -1,10 +1,14 @@
 -- `entry::asked_by` meets its contract.
+use borrow.Author.Rules.{rules}
 use mathlib.Core.Path.{refl, ap, ◌∙◌}
 use native.Mathlib.Omega.{arith}
 use Rattle.drifters_kind.specs.Kind.{call_length}
 use Rattle.drifters_kind.specs.declared.kind.Kind.TheVariants.{Propagate, Position, Velocity, Direction, General, State, Scalar}
 use Rattle.drifters_entry.specs.declared.entry.Action.TheVariants as action
-use Rattle.drifters_entry.proofs.Asks.{unmeasured_asked, measured_asked}
+use Rattle.drifters_entry.proofs.Asks.{unmeasured_asked, measured_asked, measured_asked_by}
+use Rattle.drifters_lie.specs.Lie.{vec3_at}
+use Rattle.drifters_eqf.specs.Filter.{measured_velocity}
+use Rattle.drifters_entry.specs.Layout.{from_run}
 use Rattle.drifters_entry.proofs.entry.asked_by.Goals as goal
 
 pub returns-in-Propagate : goal.returns-in-Propagate
@@ -16,9 +20,12 @@ pub returns-in-Position : goal.returns-in-Position
 returns-in-Position c =
     measured_asked Position _ _ c.measured.result c.in-Position.is _ 3 c.measured.ensures c.position.ensures refl c.requires.1 (omega arith)
 
+-- what the calls of this arm give is left to `cc` and `search` to find, so that an arm of another kind is refused for what it asks
 pub returns-in-Velocity : goal.returns-in-Velocity
 returns-in-Velocity c =
-    measured_asked Velocity _ _ c.measured-in-Velocity.result c.in-Velocity.is _ 6 c.measured-in-Velocity.ensures c.velocity.ensures refl c.requires.1 (omega arith)
+    let f = from_run c.args.run.now in
+    let v = c.args.numbers.now in
+    measured_asked_by Velocity _ v _ c.in-Velocity.is 6 {z = measured_velocity f.x (vec3_at v 0) (vec3_at v 3)} (cc) (cc) (search rules) refl c.requires.1 (omega arith)
 
 pub returns-in-Direction : goal.returns-in-Direction
 returns-in-Direction c =
