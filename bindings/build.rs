@@ -37,7 +37,7 @@ fn folder() -> Result<String, String> {
     located().map_err(|problem| {
         format!(
             "{VARIABLE}: {problem}: set it to the folder of {FILE}; \
-             `rt staticlib drifters_eqf_c` writes that file to target/staticlib"
+             `tools/build drifters_eqf_c` writes that file to target/staticlib"
         )
     })
 }

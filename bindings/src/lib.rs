@@ -86,7 +86,7 @@
 //!
 //! # Building
 //!
-//! DRIFTERS_EQF_LIB_DIR names the folder of libdrifters_eqf_c.a, as `rt staticlib drifters_eqf_c` writes it (x86-64
+//! DRIFTERS_EQF_LIB_DIR names the folder of libdrifters_eqf_c.a, as `tools/build drifters_eqf_c` writes it (x86-64
 //! Linux). Without it the build script warns; `cargo doc` and `cargo check` go on, and what links fails.
 //!
 //! The crate needs core alone. The feature `std`, on by default, adds `run_sheet`, which gives a `String`.
