@@ -23,7 +23,7 @@ X86_64_LINUX = platform.system() == "Linux" and platform.machine() == "x86_64"
 def documents():
     """Every Markdown file of the repository, by its path from the root."""
     for folder, folders, names in os.walk(ROOT):
-        folders[:] = [name for name in folders if name not in ("target", ".git")]
+        folders[:] = [name for name in folders if name not in ("target", "out", ".git")]
         yield from (os.path.relpath(os.path.join(folder, name), ROOT) for name in names if name.endswith(".md"))
 
 
@@ -248,7 +248,7 @@ class Readme(unittest.TestCase):
         self.home = tempfile.TemporaryDirectory()
         self.addCleanup(self.home.cleanup)
         self.copy = os.path.join(self.home.name, "copy")
-        shutil.copytree(ROOT, self.copy, ignore=shutil.ignore_patterns("target", ".git"))
+        shutil.copytree(ROOT, self.copy, ignore=shutil.ignore_patterns("target", "out", ".git"))
         os.symlink(os.path.join(ROOT, "target"), os.path.join(self.copy, "target"))
 
     def run_block(self, block):
