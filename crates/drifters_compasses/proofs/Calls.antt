@@ -15,35 +15,35 @@ use Rattle.drifters_compasses.specs.declared.compasses.CompassesAnswer.TheVarian
 use Rattle.drifters_compasses.proofs.Tried.{tried_bounds}
 
 -- what is known where the lengths fit
-pub record Fits (run readings northNoise budget : ℕ) : Type 0 where
+pub record Fits (run readings north_noise budget : ℕ) : Type 0 where
   pub filter : run ≡ filter_length
   pub enough : tried budget (count_of readings) * reading_length ≤ readings
-  pub last : northNoise ≡ north_noise_length
+  pub last : north_noise ≡ north_noise_length
 
-pub fits : (run readings northNoise budget : ℕ) → compasses_fit run readings northNoise budget ≡ true → Fits run readings northNoise budget
-fits run readings northNoise budget h =
+pub fits : (run readings north_noise budget : ℕ) → compasses_fit run readings north_noise budget ≡ true → Fits run readings north_noise budget
+fits run readings north_noise budget h =
     let noise = (and-eq-true_iff _ _).0 ((and-eq-true_iff _ _).0 h).0 in
     let most = (and-eq-true_iff _ _).0 noise.0 in
     let one = (and-eq-true_iff _ _).0 most.0 in
     record {
       filter = eqb-true run filter_length ((and-eq-true_iff _ _).0 one.0).0;
       enough = let few = tried_bounds.count budget (count_of readings) in omega arith;
-      last = eqb-true northNoise north_noise_length noise.1;
+      last = eqb-true north_noise north_noise_length noise.1;
     }
 
-module _ (run readings northNoise : List Float) (budget : ℕ) where
-  pub length_refused : compasses_fit (length run) (length readings) (length northNoise) budget ≡ false
-      → compasses_outcome (Refused length_refusal) run ≡ update_compasses run readings northNoise budget
+module _ (run readings north_noise : List Float) (budget : ℕ) where
+  pub length_refused : compasses_fit (length run) (length readings) (length north_noise) budget ≡ false
+      → compasses_outcome (Refused length_refusal) run ≡ update_compasses run readings north_noise budget
   unfolding update_compasses
   length_refused h = rw h
 
-  module _ (fit : compasses_fit (length run) (length readings) (length northNoise) budget ≡ true) where
-    pub blank_refused : (all_finite run && all_finite northNoise) ≡ false → compasses_outcome (Refused blank_refusal) run ≡ update_compasses run readings northNoise budget
+  module _ (fit : compasses_fit (length run) (length readings) (length north_noise) budget ≡ true) where
+    pub blank_refused : (all_finite run && all_finite north_noise) ≡ false → compasses_outcome (Refused blank_refusal) run ≡ update_compasses run readings north_noise budget
     unfolding update_compasses
     blank_refused h = rw (fit, h)
 
     -- k is how many are tried, b the best of them
-    pub best_selected : {k : ℕ} {b : BestTry} → (all_finite run && all_finite northNoise) ≡ true → k ≡ tried budget (count_of (length readings))
-        → b ≡ best_of (attempt run readings northNoise) k → selected k run b ≡ update_compasses run readings northNoise budget
+    pub best_selected : {k : ℕ} {b : BestTry} → (all_finite run && all_finite north_noise) ≡ true → k ≡ tried budget (count_of (length readings))
+        → b ≡ best_of (attempt run readings north_noise) k → selected k run b ≡ update_compasses run readings north_noise budget
     unfolding update_compasses
     best_selected {k} h e best = rw (fit, h, ← e) (ap (selected k run) best)

@@ -29,9 +29,9 @@ count_of n = n / reading_length
 
 -- the filter's run, the readings, from one to the most of them, and north with noise have their stated lengths, and the budget is at most the most
 abbrev pub compasses_fit : ℕ → ℕ → ℕ → ℕ → Bool
-compasses_fit run readings northNoise budget =
+compasses_fit run readings north_noise budget =
     eqb run filter_length && eqb (readings % reading_length) 0 && leb 1 (count_of readings) && leb (count_of readings) most_readings
-    && eqb northNoise north_noise_length && leb budget most_readings
+    && eqb north_noise north_noise_length && leb budget most_readings
 
 -- how many readings are tried, by the budget and their count alone: the smaller of the two
 unfoldable pub tried : ℕ → ℕ → ℕ
@@ -39,11 +39,11 @@ tried budget count = min budget count
 
 -- the numbers of a direction call by reading i: what it measured, then north and noise
 unfoldable pub direction_numbers : List Float → List Float → ℕ → List Float
-direction_numbers readings northNoise i = part readings (i * reading_length) reading_length ++ northNoise
+direction_numbers readings north_noise i = part readings (i * reading_length) reading_length ++ north_noise
 
 -- reading i, tried: the direction call by it, on the filter's run
 unfoldable pub attempt : List Float → List Float → List Float → ℕ → Outcome
-attempt run readings northNoise i = call Direction run (direction_numbers readings northNoise i) []
+attempt run readings north_noise i = call Direction run (direction_numbers readings north_noise i) []
 
 -- the best of some tries: its index, its normalised innovation squared and the filter that it left; `nothing` where none was accepted
 pub data BestTry : Type 0 where
@@ -87,10 +87,10 @@ selected k run (reading i x left) = compasses_outcome (Chosen i x k) left
 
 -- the update by the best of the first readings, as many as are tried; a refusal leaves the filter's run as it was
 unfoldable pub update_compasses : List Float → List Float → List Float → ℕ → CompassesOutcome
-update_compasses run readings northNoise budget =
+update_compasses run readings north_noise budget =
     let k = tried budget (count_of (length readings)) in
-    cond (compasses_fit (length run) (length readings) (length northNoise) budget)
-    (cond (all_finite run && all_finite northNoise) (selected k run (best_of (attempt run readings northNoise) k)) (compasses_outcome (Refused blank_refusal) run))
+    cond (compasses_fit (length run) (length readings) (length north_noise) budget)
+    (cond (all_finite run && all_finite north_noise) (selected k run (best_of (attempt run readings north_noise) k)) (compasses_outcome (Refused blank_refusal) run))
     (compasses_outcome (Refused length_refusal) run)
 
 -- the number of an answer: that of a refusal, and 0 where the call is accepted, be it that no reading was

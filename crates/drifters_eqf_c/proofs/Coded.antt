@@ -62,16 +62,16 @@ runs_fit counts nis = eqb (length counts) counts_length && eqb (length nis) resu
 pub runs_fit_lem : (counts : List ℕ) (nis : List Float) → runs_fit counts nis ≡ true → (length counts ≡ counts_length) × (length nis ≡ result_length)
 runs_fit_lem counts nis fit = let both = (and-eq-true_iff _ _).0 fit in (eqb-true _ _ both.0, eqb-true _ _ both.1)
 
-module _ (run readings northNoise : List Float) (budget : ℕ) (counts : List ℕ) (nis : List Float) where
-  pub compasses_refused : runs_fit counts nis ≡ false → coded_compasses length_refusal run counts nis ≡ coded_update_compasses run readings northNoise budget counts nis
+module _ (run readings north_noise : List Float) (budget : ℕ) (counts : List ℕ) (nis : List Float) where
+  pub compasses_refused : runs_fit counts nis ≡ false → coded_compasses length_refusal run counts nis ≡ coded_update_compasses run readings north_noise budget counts nis
   unfolding coded_update_compasses
   compasses_refused differ = rw differ
 
   -- r is the code of the answer a, and `told` and `given` the runs after it
   pub compasses_coded : {a : CompassesAnswer} {left given : List Float} {told : List ℕ} {r : ℕ} → runs_fit counts nis ≡ true →
-      compasses_outcome a left ≡ update_compasses run readings northNoise budget →
+      compasses_outcome a left ≡ update_compasses run readings north_noise budget →
       (r ≡ compasses_number a) × (told ≡ counts_after a counts) × (given ≡ chosen_nis_after a nis) →
-      coded_compasses r left told given ≡ coded_update_compasses run readings northNoise budget counts nis
+      coded_compasses r left told given ≡ coded_update_compasses run readings north_noise budget counts nis
   unfolding coded_update_compasses
   compasses_coded {a} {left} fit made all =
       rw fit

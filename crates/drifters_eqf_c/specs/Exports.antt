@@ -82,8 +82,8 @@ chosen_nis_after (compasses.Refused n) nis = nis
 -- an update by several compasses, with a run of two numbers for its counts and one of one for its normalised innovation squared; runs of other
 -- lengths are refused as length
 unfoldable pub coded_update_compasses : List Float → List Float → List Float → ℕ → List ℕ → List Float → CodedCompasses
-coded_update_compasses run readings northNoise budget counts nis =
-    let o = update_compasses run readings northNoise budget in
+coded_update_compasses run readings north_noise budget counts nis =
+    let o = update_compasses run readings north_noise budget in
     cond (eqb (length counts) counts_length && eqb (length nis) result_length)
     (coded_compasses (compasses_number o.answer) o.run (counts_after o.answer counts) (chosen_nis_after o.answer nis))
     (coded_compasses length_refusal run counts nis)

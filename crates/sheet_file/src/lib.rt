@@ -53,7 +53,8 @@ pub fn read_whole<R: Read>(reader: &mut R, bytes: &mut [u8]) -> usize
     counted(n, rest)
 }
 
-// The file's bytes at the front of `bytes`; answers how many there are. 0 where the file cannot be read to its end, or is longer than `bytes`.
+// The file's bytes at the front of `bytes`; answers how many there are. 0 where the file cannot be read to its end, or is longer than `bytes`. The
+// library opens a path by its text, so a path that is no UTF-8 is of no file.
 pub fn read_file<R: Files>(rt: &R, path: &[u8], bytes: &mut [u8]) -> usize
     ensures { IsPrefixLen result bytes.new }
 {

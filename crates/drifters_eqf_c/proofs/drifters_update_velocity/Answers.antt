@@ -4,7 +4,7 @@ use Rattle.drifters_eqf_c.proofs.Coded.{update_refused, update_coded}
 use Rattle.drifters_eqf_c.proofs.drifters_update_velocity.Goals as goal
 
 pub returns-then-nis-ne-RESULT_LENGTH : goal.returns-then-nis-ne-RESULT_LENGTH
-returns-then-nis-ne-RESULT_LENGTH c = update_refused Velocity _ _ _ c.if-nis-ne-RESULT_LENGTH.true
+returns-then-nis-ne-RESULT_LENGTH c = update_refused _ _ _ _ c.if-nis-ne-RESULT_LENGTH.true
 
 pub returns : goal.returns
 returns c =

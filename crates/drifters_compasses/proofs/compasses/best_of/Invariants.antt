@@ -10,10 +10,10 @@ use Rattle.drifters_compasses.specs.declared.compasses.Best.{Best}
 use Rattle.drifters_compasses.proofs.compasses.best_of.Given as goal
 
 -- the best of the first i is kept, with the filter that it left
-pub record Kept (k : ℕ) (run readings northNoise left₀ left : List Float) (b : Best) (i : ℕ) : Type 0 where
+pub record Kept (k : ℕ) (run readings north_noise left₀ left : List Float) (b : Best) (i : ℕ) : Type 0 where
   pub within : i ≤ k
   pub size : length left ≡ length left₀
-  pub is : best_try b left ≡ best_of (attempt run readings northNoise) i
+  pub is : best_try b left ≡ best_of (attempt run readings north_noise) i
 
 abbrev pub invariant-loop-i : goal.invariant-loop-i
 invariant-loop-i l = Kept l.k l.run l.readings l.north_noise l.initial.left l.left l.best l.i

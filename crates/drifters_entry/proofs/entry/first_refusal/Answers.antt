@@ -15,8 +15,14 @@ returns-then-not-lengths_fit c =
 
 pub returns-then-not-all_finite : goal.returns-then-not-all_finite
 returns-then-not-all_finite c =
-    rw (not-true (c.all_finite.result && c.all_finite-2.result) (ap not c.if-not-all_finite.true)) at (let it : let a = c.args in cond (c.all_finite.result && c.all_finite-2.result) 0 blank_refusal ≡ first_refusal a.form a.run.now a.numbers.now a.written = let a = c.args in rw (c.all_finite.ensures, c.all_finite-2.ensures, not-false (lengths_fit a.form a.run.now a.numbers.now a.written) (ap not c.if-not-lengths_fit.false)) in it)
+    let a = c.args in
+    let tested : cond (c.all_finite.result && c.all_finite-2.result) 0 blank_refusal ≡ first_refusal a.form a.run.now a.numbers.now a.written =
+    rw (c.all_finite.ensures, c.all_finite-2.ensures, not-false (lengths_fit a.form a.run.now a.numbers.now a.written) (ap not c.if-not-lengths_fit.false)) in
+    rw (not-true (c.all_finite.result && c.all_finite-2.result) (ap not c.if-not-all_finite.true)) at tested
 
 pub returns : goal.returns
 returns c =
-    rw (not-false (c.all_finite.result && c.all_finite-2.result) (ap not c.if-not-all_finite.false)) at (let it : let a = c.args in cond (c.all_finite.result && c.all_finite-2.result) 0 blank_refusal ≡ first_refusal a.form a.run.now a.numbers.now a.written = let a = c.args in rw (c.all_finite.ensures, c.all_finite-2.ensures, not-false (lengths_fit a.form a.run.now a.numbers.now a.written) (ap not c.if-not-lengths_fit.false)) in it)
+    let a = c.args in
+    let tested : cond (c.all_finite.result && c.all_finite-2.result) 0 blank_refusal ≡ first_refusal a.form a.run.now a.numbers.now a.written =
+    rw (c.all_finite.ensures, c.all_finite-2.ensures, not-false (lengths_fit a.form a.run.now a.numbers.now a.written) (ap not c.if-not-lengths_fit.false)) in
+    rw (not-false (c.all_finite.result && c.all_finite-2.result) (ap not c.if-not-all_finite.false)) at tested
