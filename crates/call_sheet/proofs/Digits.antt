@@ -1,20 +1,17 @@
 -- The lengths of digits and of answers, and the laws of texts of few bytes. Assumes nothing.
-use Prim.Native.Nat.{ℕ, zero, suc, ◌-◌, ◌/◌, ◌%◌, ◌≤◌}
-use mathlib.Core.Path.{◌≡◌, refl, sym, ap, ◌∙◌}
+use Prim.Native.Nat.{ℕ, zero, suc, ◌+◌, ◌-◌, ◌/◌, ◌%◌, ◌≤◌}
+use mathlib.Core.Path.{◌≡◌, refl, ◌∙◌}
 use mathlib.Core.Bool.{Bool, true, false, cond}
-use mathlib.Core.List.{List, [], ◌∷◌, ◌++◌}
+use mathlib.Core.List.{List, [], ◌∷◌}
 use native.Mathlib.Omega.{arith}
 use borrow.Author.Tests.{lt-ltb}
 use lib.Dec.{ltb}
-use lib.ListN.{length, take, replicate, length-append}
-use lib.Seq.{take_at}
+use lib.ListN.{length, take, drop, length-append, length-take, length-drop}
 use lib.Ieee.{binary64, to_bits}
 use Rattle.drifters_kind.specs.Kind.{kind_number}
-use Rattle.drifters_eqf.specs.declared.filter.Answer.{Answer}
-use Rattle.drifters_eqf.specs.declared.filter.Answer.TheVariants.{Nis, Fine, Refused}
+use Rattle.drifters_eqf.specs.Answer.{Answer, Nis, Fine, Refused}
 use Rattle.drifters_kind.specs.declared.kind.Kind.{Kind}
 use Rattle.drifters_kind.proofs.ByNumber.{number_digit}
-use Rattle.call_sheet.specs.declared.text.Text.{Text}
 use Rattle.call_sheet.specs.Digits.{digit, digits, decimal}
 use Rattle.call_sheet.specs.Text.{answer_text}
 
@@ -24,6 +21,10 @@ length_digits b zero n = refl
 length_digits b (suc k) n =
     let high = length_digits b k (n / b) in
     length-append (digits b k (n / b)) (digit (n % b) ∷ []) ∙ omega arith
+
+-- the places from a place on that are lent for k digits are k
+pub places_lent : (out : List ℕ) (at k : ℕ) → at + k ≤ length out → length (take (at + k - at) (drop at out)) ≡ k
+places_lent out at k h = simp (length-take, length-drop) (omega arith)
 
 -- at most three digits are printed
 pub decimal_short : (n : ℕ) → length (decimal n) ≤ 3
@@ -45,17 +46,3 @@ pub answer_short : (a : Answer) → length (answer_text a) ≤ 16
 answer_short (Nis x) = omega (arith, length_digits 16 16 (to_bits binary64 x))
 answer_short Fine = omega arith
 answer_short (Refused n) = omega (arith, decimal_short n)
-
--- a text whose bytes are those of a list, then zeros
-module _ (text : Text) (list : List ℕ) (h : text.length ≡ length list) (e : text.bytes ≡ list ++ replicate (16 - text.length) 0) where
-  -- its length is within its bytes
-  pub text_within : text.length ≤ length text.bytes
-  text_within = omega (arith, h, ap length e, length-append list (replicate (16 - text.length) 0))
-
-  -- its first bytes are the list
-  pub text_front : take text.length text.bytes ≡ list
-  text_front = ap (take text.length) e ∙ take_at list (replicate (16 - text.length) 0) text.length (sym h)
-
-  -- and as many as it says
-  pub text_count : text.length ≡ length (take text.length text.bytes)
-  text_count = h ∙ sym (ap length text_front)

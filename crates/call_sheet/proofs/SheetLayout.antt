@@ -3,8 +3,7 @@
 use Prim.Native.Nat.{ℕ, zero, suc, ◌+◌, ◌-◌, ◌*◌, ◌≤◌, ◌<◌}
 use mathlib.Core.Path.{◌≡◌, refl, sym, ap, ◌∙◌, subst}
 use mathlib.Core.Bool.{Bool, true, false, ◌&&◌, cond, false≢true}
-use mathlib.Core.List.{List, [], ◌∷◌, ◌++◌, append_assoc}
-use mathlib.Core.Option.{Option, none, some, some-injective}
+use mathlib.Core.List.{List, [], ◌∷◌, ◌++◌, map, append_assoc}
 use native.Mathlib.Nat.{add-zero}
 use native.Mathlib.Numerals.{one-add}
 use native.Mathlib.Omega.{arith}
@@ -12,52 +11,26 @@ use borrow.Author.Tests.{eq-eqb, le-leb, eqb-true, leb-true}
 use lib.Dec.{eqb, leb}
 use lib.ListN.{length, take, drop, length-append}
 use lib.Seq.{take_at, drop_at}
+use Rattle.std.specs.Prelude.{Option, Some, None, Err, option_map}
+use Rattle.std.specs.Bool.{then_some}
+use Rattle.std.proofs.lemmas.Option.{none-some, same_Some}
 use Rattle.drifters_matrix.specs.Matrix.{tab}
 use Rattle.drifters_matrix.proofs.Matrix.Tab.{length_tab, tab_add}
-use Rattle.drifters_eqf.specs.Answer.{length_refusal}
-use Rattle.drifters_kind.specs.Kind.{kind_number, call_length, kind_of}
+use Rattle.drifters_eqf.specs.declared.answer.Refusal.TheVariants as refusal
+use Rattle.drifters_kind.specs.Kind.{call_length, kind_of}
 use Rattle.drifters_entry.specs.Layout.{filter_length}
 use Rattle.drifters_kind.specs.declared.kind.Kind.{Kind}
-use Rattle.drifters_kind.proofs.ByNumber.{kinds_found, number_of_kind}
-use Rattle.call_sheet.specs.declared.sheet.Filled.TheVariants.{Refused}
 use Rattle.little_endian.specs.Bytes.{u64_at, u64s_at}
-use Rattle.call_sheet.specs.Sheet.{
-  most_entries,
-  most_bytes,
-  count_of,
-  kind_at,
-  offset_at,
-  table_bytes,
-  filter_end,
-  SheetCall,
-  sheet_call,
-  Sheet,
-  with_call,
-  call_before,
-  calls_at,
-  header_fits,
-  sheet_with,
-  read_sheet,
-  is_some,
-  kinds_of,
-  bits_of,
-  call_from,
-  calls_in,
-  most_calls,
-  most_numbers,
-  runs,
-  in_runs,
-  read_into,
-}
+use Rattle.call_sheet.specs.Sheet.{most_entries, most_bytes, count_of, kind_at, offset_at, table_bytes, filter_end, SheetCall, sheet_call, Sheet, with_call, call_before, calls_at, header_fits, sheet_with, read_sheet, is_some, kinds_of, bits_of, calls_in, most_calls, most_numbers, runs, in_runs, read_into}
 
--- `none` is not `some`
-pub no_some : {A B : Type 0} {a : A} → ◌≡◌ {A = Option A} none (some a) → B
-no_some e = absurd (false≢true (ap is_some e))
+-- None is not Some
+pub no_some : {A B : Type 0} {a : A} → None ≡ Some a → B
+no_some {a = a} e = absurd (none-some a e)
 
 -- what there is
-pub some_found : {A : Type 0} (o : Option A) → is_some o ≡ true → (a : A) × (o ≡ some a)
-some_found none e = absurd (false≢true e)
-some_found (some a) e = (a, refl)
+pub some_found : {A : Type 0} (o : Option A) → is_some o ≡ true → (a : A) × (o ≡ Some a)
+some_found None e = absurd (false≢true e)
+some_found (Some a) e = (a, refl)
 
 -- ---- one call after another
 
@@ -66,34 +39,34 @@ pub record Next (k i : ℕ) (s : List ℕ) (place : ℕ) (cs : List SheetCall) :
   pub kind : Kind
   pub rest : List SheetCall
   pub offset : offset_at s i ≡ place
-  pub is_kind : kind_of (kind_at s i) ≡ some kind
+  pub is_kind : kind_of (kind_at s i) ≡ Some kind
   pub is : sheet_call kind (u64s_at (call_length kind) s place) ∷ rest ≡ cs
-  pub found : calls_at k (i + 1) s (place + 8 * call_length kind) ≡ some rest
+  pub found : calls_at k (i + 1) s (place + 8 * call_length kind) ≡ Some rest
 
-next : (k i : ℕ) (s : List ℕ) (place : ℕ) (cs : List SheetCall) → calls_at (suc k) i s place ≡ some cs → Next k i s place cs
+next : (k i : ℕ) (s : List ℕ) (place : ℕ) (cs : List SheetCall) → calls_at (suc k) i s place ≡ Some cs → Next k i s place cs
 unfolding calls_at
 next k i s place cs e = by_offset (eqb (offset_at s i) place) refl e
   where
-    by_rest : (kind : Kind) (o : Option (List SheetCall)) → offset_at s i ≡ place → kind_of (kind_at s i) ≡ some kind
-        → calls_at k (i + 1) s (place + 8 * call_length kind) ≡ o → with_call (sheet_call kind (u64s_at (call_length kind) s place)) o ≡ some cs
+    by_rest : (kind : Kind) (o : Option (List SheetCall)) → offset_at s i ≡ place → kind_of (kind_at s i) ≡ Some kind
+        → calls_at k (i + 1) s (place + 8 * call_length kind) ≡ o → with_call (sheet_call kind (u64s_at (call_length kind) s place)) o ≡ Some cs
         → Next k i s place cs
-    by_rest kind none p f r e = no_some e
-    by_rest kind (some rest) p f r e = record {
+    by_rest kind None p f r e = no_some e
+    by_rest kind (Some rest) p f r e = record {
       kind = kind;
       rest = rest;
       offset = p;
       is_kind = f;
-      is = some-injective _ cs e;
+      is = same_Some _ cs e;
       found = r;
     }
 
     by_kind : (o : Option Kind) → offset_at s i ≡ place → kind_of (kind_at s i) ≡ o
-        → call_before o s place (calls_at k (i + 1) s) ≡ some cs → Next k i s place cs
-    by_kind none p f e = no_some e
-    by_kind (some kind) p f e = by_rest kind (calls_at k (i + 1) s (place + 8 * call_length kind)) p f refl e
+        → call_before o s place (calls_at k (i + 1) s) ≡ Some cs → Next k i s place cs
+    by_kind None p f e = no_some e
+    by_kind (Some kind) p f e = by_rest kind (calls_at k (i + 1) s (place + 8 * call_length kind)) p f refl e
 
     by_offset : (b : Bool) → eqb (offset_at s i) place ≡ b
-        → cond b (call_before (kind_of (kind_at s i)) s place (calls_at k (i + 1) s)) none ≡ some cs → Next k i s place cs
+        → cond b (call_before (kind_of (kind_at s i)) s place (calls_at k (i + 1) s)) None ≡ Some cs → Next k i s place cs
     by_offset true t e = by_kind (kind_of (kind_at s i)) (eqb-true (offset_at s i) place t) refl e
     by_offset false t e = no_some e
 
@@ -106,11 +79,11 @@ no_calls n i s place h never = rw step (go (calls_at (suc (n - (i + 1))) i s pla
     step = omega arith
 
     go : (o : Option (List SheetCall)) → calls_at (suc (n - (i + 1))) i s place ≡ o → false ≡ is_some o
-    go none e = refl
-    go (some cs) e = absurd (never cs (next (n - (i + 1)) i s place cs e))
+    go None e = refl
+    go (Some cs) e = absurd (never cs (next (n - (i + 1)) i s place cs e))
 
 -- one more is found, of a kind, and it has m numbers
-pub calls_step : (n i : ℕ) (s : List ℕ) (place : ℕ) {kind : Kind} {m : ℕ} → i < n → kind_of (kind_at s i) ≡ some kind → offset_at s i ≡ place → m ≡ call_length kind
+pub calls_step : (n i : ℕ) (s : List ℕ) (place : ℕ) {kind : Kind} {m : ℕ} → i < n → kind_of (kind_at s i) ≡ Some kind → offset_at s i ≡ place → m ≡ call_length kind
     → is_some (calls_at (n - i) i s place) ≡ is_some (calls_at (n - (i + 1)) (i + 1) s (place + 8 * m))
 unfolding calls_at
 calls_step n i s place {kind} {m} h found p l =
@@ -120,8 +93,8 @@ calls_step n i s place {kind} {m} h found p l =
     step = omega arith
 
     go : (o : Option (List SheetCall)) → is_some (with_call (sheet_call kind (u64s_at (call_length kind) s place)) o) ≡ is_some o
-    go none = refl
-    go (some cs) = refl
+    go None = refl
+    go (Some cs) = refl
 
 -- after the last entry the file ends
 pub calls_end : (n i : ℕ) (s : List ℕ) (place : ℕ) → n ≤ i → is_some (calls_at (n - i) i s place) ≡ eqb place (length s)
@@ -131,7 +104,7 @@ calls_end n i s place h = rw none_left (go (eqb place (length s)))
     none_left : n - i ≡ 0
     none_left = omega arith
 
-    go : (b : Bool) → is_some {A = List SheetCall} (cond b (some []) none) ≡ b
+    go : (b : Bool) → is_some {A = List SheetCall} (cond b (Some []) None) ≡ b
     go true = refl
     go false = refl
 
@@ -149,18 +122,18 @@ unfolding u64s_at
 length_u64s n s p = length_tab n _
 
 -- the first of a table's entries, and the others
-tab_first : (n : ℕ) (f : ℕ → ℕ) → tab (suc n) f ≡ f 0 ∷ tab n (λ j. f (1 + j))
+tab_first : {A : Type 0} (n : ℕ) (f : ℕ → A) → tab (suc n) f ≡ f 0 ∷ tab n (λ j. f (1 + j))
 unfolding tab
 tab_first n f = ap (λ (m : ℕ). tab m f) (sym (one-add n)) ∙ tab_add 1 n f
 
--- what k calls are that are found from entry i on, the first body at a place: their kinds are those of the table, their bits one after another are the
+-- what k calls are that are found from entry i on, the first body at a place: their kinds are those of the table's numbers, their bits one after another are the
 -- numbers from that place to the end of the file, and from these they come back
 pub record Calls (k i : ℕ) (s : List ℕ) (place : ℕ) (cs : List SheetCall) : Type 0 where
   pub count : length cs ≡ k
-  pub kinds : kinds_of cs ≡ tab k (λ j. kind_at s (i + j))
+  pub kinds : map (λ kind. Some kind) (kinds_of cs) ≡ tab k (λ j. kind_of (kind_at s (i + j)))
   pub bits : bits_of cs ≡ u64s_at (length (bits_of cs)) s place
   pub ends : place + 8 * length (bits_of cs) ≡ length s
-  pub back : (others : List ℕ) → calls_in (kinds_of cs) (bits_of cs ++ others) ≡ some cs
+  pub back : (others : List ℕ) → calls_in (kinds_of cs) (bits_of cs ++ others) ≡ Some cs
 
 -- no entry is left
 none_found : (i : ℕ) (s : List ℕ) (place : ℕ) → place ≡ length s → Calls 0 i s place []
@@ -168,7 +141,7 @@ unfolding kinds_of bits_of calls_in u64s_at tab
 none_found i s place e = record { count = refl; kinds = refl; bits = refl; ends = omega (arith, e); back = λ others. refl }
 
 -- a call before others
-module _ (k i : ℕ) (s : List ℕ) (place : ℕ) (kind : Kind) (rest : List SheetCall) (number : kind_number kind ≡ kind_at s i)
+module _ (k i : ℕ) (s : List ℕ) (place : ℕ) (kind : Kind) (rest : List SheetCall) (is_kind : kind_of (kind_at s i) ≡ Some kind)
     (after : Calls k (i + 1) s (place + 8 * call_length kind) rest) where
   one_found : Calls (suc k) i s place (sheet_call kind (u64s_at (call_length kind) s place) ∷ rest)
   unfolding kinds_of bits_of calls_in
@@ -179,10 +152,10 @@ module _ (k i : ℕ) (s : List ℕ) (place : ℕ) (kind : Kind) (rest : List She
       let size : length here ≡ n = length_u64s n s place in
       let total : length (here ++ later) ≡ n + length later = length-append here later ∙ ap (λ (m : ℕ). m + length later) size in
       let entry : (j : ℕ) → i + 1 + j ≡ i + (1 + j) = λ j. omega arith in
-      let first : kind_number kind ≡ kind_at s (i + 0) = number ∙ ap (kind_at s) (sym (add-zero i)) in
+      let first : Some kind ≡ kind_of (kind_at s (i + 0)) = sym is_kind ∙ ap (λ (m : ℕ). kind_of (kind_at s m)) (sym (add-zero i)) in
       record {
         count = ap suc after.count;
-        kinds = (λ t. first t ∷ (after.kinds ∙ (λ u. tab k (λ j. kind_at s (entry j u)))) t) ∙ sym (tab_first k (λ j. kind_at s (i + j)));
+        kinds = (λ t. first t ∷ (after.kinds ∙ (λ u. tab k (λ j. kind_of (kind_at s (entry j u))))) t) ∙ sym (tab_first k (λ j. kind_of (kind_at s (i + j))));
         bits = ap (λ (l : List ℕ). here ++ l) after.bits ∙ sym (u64s_add n (length later) s place) ∙ ap (λ (m : ℕ). u64s_at m s place) (sym total);
         ends = omega (arith, total, after.ends);
         back = λ others.
@@ -191,21 +164,20 @@ module _ (k i : ℕ) (s : List ℕ) (place : ℕ) (kind : Kind) (rest : List She
             let taken : take n all ≡ here = ap (take n) split ∙ take_at here (later ++ others) n size in
             let left : drop n all ≡ later ++ others = ap (drop n) split ∙ drop_at here (later ++ others) n size in
             let enough : n ≤ length all = omega (arith, size, ap length split, length-append here (later ++ others)) in
-            ap (λ (o : Option Kind). call_from o all (calls_in (kinds_of rest))) (kinds_found kind)
-            ∙ rw (le-leb n (length all) enough, taken, left, after.back others);
+            rw (le-leb n (length all) enough, taken, left, after.back others);
       }
 
-calls_found : (k i : ℕ) (s : List ℕ) (place : ℕ) (cs : List SheetCall) → calls_at k i s place ≡ some cs → Calls k i s place cs
+calls_found : (k i : ℕ) (s : List ℕ) (place : ℕ) (cs : List SheetCall) → calls_at k i s place ≡ Some cs → Calls k i s place cs
 unfolding calls_at
 calls_found zero i s place cs e = go (eqb place (length s)) refl e
   where
-    go : (b : Bool) → eqb place (length s) ≡ b → cond b (some []) none ≡ some cs → Calls 0 i s place cs
-    go true t e = subst (λ (l : List SheetCall). Calls 0 i s place l) (some-injective [] cs e) (none_found i s place (eqb-true place (length s) t))
+    go : (b : Bool) → eqb place (length s) ≡ b → cond b (Some []) None ≡ Some cs → Calls 0 i s place cs
+    go true t e = subst (λ (l : List SheetCall). Calls 0 i s place l) (same_Some [] cs e) (none_found i s place (eqb-true place (length s) t))
     go false t e = no_some e
 calls_found (suc k) i s place cs e =
     let n = next k i s place cs e in
     subst (λ (l : List SheetCall). Calls (suc k) i s place l) n.is
-    (one_found k i s place n.kind n.rest (number_of_kind (kind_at s i) n.is_kind) (calls_found k (i + 1) s (place + 8 * call_length n.kind) n.rest n.found))
+    (one_found k i s place n.kind n.rest n.is_kind (calls_found k (i + 1) s (place + 8 * call_length n.kind) n.rest n.found))
 
 -- ---- the sheet
 
@@ -230,6 +202,10 @@ all_true true true false d e p = absurd (false≢true p)
 all_true true false c d e p = absurd (false≢true p)
 all_true false b c d e p = absurd (false≢true p)
 
+-- how many entries a sheet has; None where there is none
+abbrev pub entries_of : List ℕ → Option ℕ
+entries_of s = option_map (λ sheet. count_of s) (read_sheet s)
+
 module _ (s : List ℕ) where
   -- the tests hold, by the facts and back
   tested : header_fits s ≡ true → Header s (count_of s)
@@ -243,19 +219,19 @@ module _ (s : List ℕ) where
   unfolding header_fits
   header_fits_lem h = rw (le-leb _ _ h.least, le-leb _ _ h.most, le-leb _ _ h.short, eq-eqb _ _ h.kind, eq-eqb _ _ h.offset)
 
-  read : (sheet : Sheet) → read_sheet s ≡ some sheet → Read s (count_of s) sheet
+  read : (sheet : Sheet) → read_sheet s ≡ Some sheet → Read s (count_of s) sheet
   unfolding read_sheet
   read sheet e = fitting (header_fits s) refl e
     where
       whole : (o : Option (List SheetCall)) → Header s (count_of s) → calls_at (count_of s - 1) 1 s (filter_end (count_of s)) ≡ o
-          → sheet_with (u64s_at filter_length s (table_bytes (count_of s))) o ≡ some sheet → Read s (count_of s) sheet
-      whole none h c e = no_some e
-      whole (some cs) h c e =
-          subst (λ (r : Sheet). Read s (count_of s) r) (some-injective _ sheet e)
+          → sheet_with (u64s_at filter_length s (table_bytes (count_of s))) o ≡ Some sheet → Read s (count_of s) sheet
+      whole None h c e = no_some e
+      whole (Some cs) h c e =
+          subst (λ (r : Sheet). Read s (count_of s) r) (same_Some _ sheet e)
           (record { header = h; filter = refl; calls = calls_found (count_of s - 1) 1 s (filter_end (count_of s)) cs c })
 
       fitting : (b : Bool) → header_fits s ≡ b
-          → cond b (sheet_with (u64s_at filter_length s (table_bytes (count_of s))) (calls_at (count_of s - 1) 1 s (filter_end (count_of s)))) none ≡ some sheet
+          → cond b (sheet_with (u64s_at filter_length s (table_bytes (count_of s))) (calls_at (count_of s - 1) 1 s (filter_end (count_of s)))) None ≡ Some sheet
           → Read s (count_of s) sheet
       fitting true t e = whole (calls_at (count_of s - 1) 1 s (filter_end (count_of s))) (tested t) refl e
       fitting false t e = no_some e
@@ -265,59 +241,70 @@ module _ (s : List ℕ) where
   some_calls h = rw (header_fits_lem h) (go (calls_at (count_of s - 1) 1 s (filter_end (count_of s))))
     where
       go : (o : Option (List SheetCall)) → is_some (sheet_with (u64s_at filter_length s (table_bytes (count_of s))) o) ≡ is_some o
-      go none = refl
-      go (some cs) = refl
+      go None = refl
+      go (Some cs) = refl
 
   -- the same laws, where n is the count
   module _ {n : ℕ} (counted : n ≡ count_of s) where
-    pub sheet_read : (sheet : Sheet) → read_sheet s ≡ some sheet → Read s n sheet
+    pub sheet_read : (sheet : Sheet) → read_sheet s ≡ Some sheet → Read s n sheet
     sheet_read sheet e = subst (λ (m : ℕ). Read s m sheet) (sym counted) (read sheet e)
 
     -- no sheet is read
-    pub no_sheet : ((sheet : Sheet) → Read s n sheet → ⊥) → false ≡ is_some (read_sheet s)
+    pub no_sheet : ((sheet : Sheet) → Read s n sheet → ⊥) → None ≡ entries_of s
     no_sheet never = go (read_sheet s) refl
       where
-        go : (o : Option Sheet) → read_sheet s ≡ o → false ≡ is_some o
-        go none e = refl
-        go (some sheet) e = absurd (never sheet (sheet_read sheet e))
+        go : (o : Option Sheet) → read_sheet s ≡ o → None ≡ option_map (λ sheet. count_of s) o
+        go None e = refl
+        go (Some sheet) e = absurd (never sheet (sheet_read sheet e))
 
     -- past its header a sheet is read where its calls are found
-    pub sheet_calls : Header s n → is_some (read_sheet s) ≡ is_some (calls_at (n - 1) 1 s (filter_end n))
-    sheet_calls h =
-        some_calls (subst (λ (m : ℕ). Header s m) counted h) ∙ ap (λ (m : ℕ). is_some (calls_at (m - 1) 1 s (filter_end m))) (sym counted)
+    pub sheet_calls : {b : Bool} → Header s n → b ≡ is_some (calls_at (n - 1) 1 s (filter_end n)) → then_some b n ≡ entries_of s
+    sheet_calls {b} h e =
+        go b (read_sheet s)
+        (e ∙ ap (λ (m : ℕ). is_some (calls_at (m - 1) 1 s (filter_end m))) counted ∙ sym (some_calls (subst (λ (m : ℕ). Header s m) counted h)))
+      where
+        go : (b : Bool) (o : Option Sheet) → b ≡ is_some o → then_some b n ≡ option_map (λ sheet. count_of s) o
+        go true None e = absurd (false≢true (sym e))
+        go false None e = refl
+        go true (Some sheet) e = ap Some counted
+        go false (Some sheet) e = absurd (false≢true e)
 
--- the sheet that is read
-pub sheet_found : (s : List ℕ) → is_some (read_sheet s) ≡ true → (sheet : Sheet) × (read_sheet s ≡ some sheet)
-sheet_found s e = some_found (read_sheet s) e
+-- the sheet that is read, where there are entries, and their count
+pub sheet_found : (s : List ℕ) {n : ℕ} → Some n ≡ entries_of s → (sheet : Sheet) × (read_sheet s ≡ Some sheet) × (n ≡ count_of s)
+sheet_found s {n} e = go (read_sheet s) refl e
+  where
+    go : (o : Option Sheet) → read_sheet s ≡ o → Some n ≡ option_map (λ sheet. count_of s) o → (sheet : Sheet) × (read_sheet s ≡ Some sheet) × (n ≡ count_of s)
+    go None r e = no_some (sym e)
+    go (Some sheet) r e = (sheet, r, same_Some n (count_of s) e)
 
--- and where none is
-pub sheet_none : (s : List ℕ) → is_some (read_sheet s) ≡ false → read_sheet s ≡ none
+-- and where there are none
+pub sheet_none : (s : List ℕ) → None ≡ entries_of s → read_sheet s ≡ None
 sheet_none s e = go (read_sheet s) e
   where
-    go : (o : Option Sheet) → is_some o ≡ false → o ≡ none
-    go none e = refl
-    go (some sheet) e = absurd (false≢true (sym e))
+    go : (o : Option Sheet) → None ≡ option_map (λ sheet. count_of s) o → o ≡ None
+    go None e = refl
+    go (Some sheet) e = no_some e
 
 -- ---- the sheet in lent runs
 
 -- what `runs_fit` tests
-pub record RunsFit (filter kinds numbers : List ℕ) : Type 0 where
+pub record RunsFit (filter : List ℕ) (kinds : List Kind) (numbers : List ℕ) : Type 0 where
   pub filter_length_lem : length filter ≡ filter_length
   pub kinds_length : most_calls ≤ length kinds
   pub numbers_length : most_numbers ≤ length numbers
 
-module _ (s filter kinds numbers : List ℕ) where
+module _ (s filter : List ℕ) (kinds : List Kind) (numbers : List ℕ) where
   pub read_fitting : RunsFit filter kinds numbers → read_into s filter kinds numbers ≡ in_runs (read_sheet s) filter kinds numbers
   unfolding read_into
   read_fitting h = rw (eq-eqb _ _ h.filter_length_lem, le-leb _ _ h.kinds_length, le-leb _ _ h.numbers_length)
 
-  pub read_short : (RunsFit filter kinds numbers → ⊥) → read_into s filter kinds numbers ≡ runs (Refused length_refusal) filter kinds numbers
+  pub read_short : (RunsFit filter kinds numbers → ⊥) → read_into s filter kinds numbers ≡ runs (Err refusal.Length) filter kinds numbers
   unfolding read_into
   read_short never = go (eqb (length filter) filter_length) (leb most_calls (length kinds)) (leb most_numbers (length numbers)) refl refl refl
     where
       go : (a b c : Bool) → eqb (length filter) filter_length ≡ a → leb most_calls (length kinds) ≡ b → leb most_numbers (length numbers) ≡ c
-          → cond (a && b && c) (in_runs (read_sheet s) filter kinds numbers) (runs (Refused length_refusal) filter kinds numbers)
-          ≡ runs (Refused length_refusal) filter kinds numbers
+          → cond (a && b && c) (in_runs (read_sheet s) filter kinds numbers) (runs (Err refusal.Length) filter kinds numbers)
+          ≡ runs (Err refusal.Length) filter kinds numbers
       go true true true p q r = absurd (never (record { filter_length_lem = eqb-true _ _ p; kinds_length = leb-true _ _ q; numbers_length = leb-true _ _ r }))
       go true true false p q r = refl
       go true false c p q r = refl

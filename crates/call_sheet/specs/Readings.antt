@@ -3,7 +3,7 @@
 use Rattle.std.specs.Prelude.{ℕ, suc, ◌+◌, ◌-◌, ◌*◌, Bool, true, false, cond, List, [], ◌∷◌, ◌++◌, length, replicate}
 use Rattle.std.specs.Float.{binary64}
 use Rattle.std.specs.Float.Ieee.{of_bits}
-use Rattle.drifters_eqf.specs.declared.filter.Answer.TheVariants.{Nis, Fine, Refused}
+use Rattle.drifters_eqf.specs.Answer.{Nis, Fine, Refused}
 use Rattle.drifters_entry.specs.Layout.{filter_length}
 use Rattle.drifters_kind.specs.Kind.{kind_number, call_length, all_kinds}
 use Rattle.drifters_kind.specs.declared.kind.Kind.TheVariants.{Position, State}

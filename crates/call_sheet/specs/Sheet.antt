@@ -1,12 +1,11 @@
 -- The call sheet: its layout (docs/MANUAL.md has it in words), and the runs that it is read into. Definitions and statements only.
-use Rattle.std.specs.Prelude.{ℕ, zero, suc, ◌+◌, ◌-◌, ◌*◌, ◌≤◌, ◌≡◌, Bool, true, false, ◌&&◌, cond, List, [], ◌∷◌, ◌++◌, map, eqb, leb, length, take, drop}
-use Rattle.std.proofs.Math.Option.{Option, none, some}
-use Rattle.drifters_eqf.specs.Answer.{length_refusal, sheet_refusal}
+use Rattle.std.specs.Prelude.{ℕ, zero, suc, ◌+◌, ◌-◌, ◌*◌, ◌≤◌, ◌≡◌, Bool, true, false, ◌&&◌, cond, List, [], ◌∷◌, ◌++◌, map, eqb, leb, length, take, drop, Option, Some, None, Result, Ok, Err}
+use Rattle.drifters_eqf.specs.Answer.{refusal_number}
+use Rattle.drifters_eqf.specs.declared.answer.Refusal.{Refusal}
+use Rattle.drifters_eqf.specs.declared.answer.Refusal.TheVariants as refusal
 use Rattle.drifters_entry.specs.Layout.{filter_length}
-use Rattle.drifters_kind.specs.Kind.{kind_number, call_length, kind_of}
+use Rattle.drifters_kind.specs.Kind.{call_length, kind_of}
 use Rattle.drifters_kind.specs.declared.kind.Kind.{Kind}
-use Rattle.call_sheet.specs.declared.sheet.Filled.{Filled}
-use Rattle.call_sheet.specs.declared.sheet.Filled.TheVariants.{Length, Refused}
 use Rattle.little_endian.specs.Bytes.{u32_at, u64s_at, placed}
 
 -- ---- layout
@@ -55,18 +54,18 @@ pub record Sheet : Type 0 where
 
 -- a call, and those that follow it
 abbrev pub with_call : SheetCall → Option (List SheetCall) → Option (List SheetCall)
-with_call c none = none
-with_call c (some cs) = some (c ∷ cs)
+with_call c None = None
+with_call c (Some cs) = Some (c ∷ cs)
 
--- the call of a kind whose body is at a place, before those that follow it; none where there is no kind
+-- the call of a kind whose body is at a place, before those that follow it; None where there is no kind
 abbrev pub call_before : Option Kind → List ℕ → ℕ → (ℕ → Option (List SheetCall)) → Option (List SheetCall)
-call_before none s place rest = none
-call_before (some kind) s place rest = with_call (sheet_call kind (u64s_at (call_length kind) s place)) (rest (place + 8 * call_length kind))
+call_before None s place rest = None
+call_before (Some kind) s place rest = with_call (sheet_call kind (u64s_at (call_length kind) s place)) (rest (place + 8 * call_length kind))
 
 -- k entries from entry i on, the first body at a place: each begins where the one before it ends, and the file ends with the last
 unfoldable pub calls_at : ℕ → ℕ → List ℕ → ℕ → Option (List SheetCall)
-calls_at zero i s place = cond (eqb place (length s)) (some []) none
-calls_at (suc k) i s place = cond (eqb (offset_at s i) place) (call_before (kind_of (kind_at s i)) s place (calls_at k (i + 1) s)) none
+calls_at zero i s place = cond (eqb place (length s)) (Some []) None
+calls_at (suc k) i s place = cond (eqb (offset_at s i) place) (call_before (kind_of (kind_at s i)) s place (calls_at k (i + 1) s)) None
 
 -- count and size are in range, and entry 0 is a filter right after the table
 unfoldable pub header_fits : List ℕ → Bool
@@ -76,19 +75,19 @@ header_fits s =
 
 -- the filter of a sheet with its calls
 abbrev pub sheet_with : List ℕ → Option (List SheetCall) → Option Sheet
-sheet_with filter none = none
-sheet_with filter (some calls) = some (record { filter = filter; calls = calls })
+sheet_with filter None = None
+sheet_with filter (Some calls) = Some (record { filter = filter; calls = calls })
 
--- the sheet that a file's bytes are; none where they break the layout
+-- the sheet that a file's bytes are; None where they break the layout
 unfoldable pub read_sheet : List ℕ → Option Sheet
 read_sheet s =
     let n = count_of s in
-    cond (header_fits s) (sheet_with (u64s_at filter_length s (table_bytes n)) (calls_at (n - 1) 1 s (filter_end n))) none
+    cond (header_fits s) (sheet_with (u64s_at filter_length s (table_bytes n)) (calls_at (n - 1) 1 s (filter_end n))) None
 
 -- whether there is one
 abbrev pub is_some : {A : Type 0} → Option A → Bool
-is_some none = false
-is_some (some a) = true
+is_some None = false
+is_some (Some a) = true
 
 -- ---- a sheet in lent runs
 
@@ -101,65 +100,64 @@ abbrev pub most_numbers : ℕ
 most_numbers = 8192
 
 -- the number of the refusal, and 0 where a run was filled
-abbrev pub refusal_of : Filled → ℕ
-refusal_of (Length n) = 0
-refusal_of (Refused n) = n
+abbrev pub refusal_of : Result ℕ Refusal → ℕ
+refusal_of (Ok n) = 0
+refusal_of (Err r) = refusal_number r
 
--- the numbers of the kinds of calls
-unfoldable pub kinds_of : List SheetCall → List ℕ
-kinds_of calls = map (λ c. kind_number c.kind) calls
+-- the kinds of calls
+unfoldable pub kinds_of : List SheetCall → List Kind
+kinds_of calls = map (λ c. c.kind) calls
 
 -- the bits of the numbers of calls, one after another
 unfoldable pub bits_of : List SheetCall → List ℕ
 bits_of [] = []
 bits_of (c ∷ cs) = c.bits ++ bits_of cs
 
--- how many calls, or the number of the refusal; the filter's bits, the kinds, and the bits of all calls, as they are after reading
+-- how many calls, or the refusal; the filter's bits, the kinds, and the bits of all calls, as they are after reading
 pub record Runs : Type 0 where
-  pub answer : Filled
+  pub answer : Result ℕ Refusal
   pub filter : List ℕ
-  pub kinds : List ℕ
+  pub kinds : List Kind
   pub numbers : List ℕ
 
 -- runs of their parts
-abbrev pub runs : Filled → List ℕ → List ℕ → List ℕ → Runs
+abbrev pub runs : Result ℕ Refusal → List ℕ → List Kind → List ℕ → Runs
 runs answer filter kinds numbers = record { answer = answer; filter = filter; kinds = kinds; numbers = numbers }
 
 -- the runs are of their stated lengths, the last two at least, which hold every sheet
-abbrev pub runs_fit : List ℕ → List ℕ → List ℕ → Bool
+abbrev pub runs_fit : List ℕ → List Kind → List ℕ → Bool
 runs_fit filter kinds numbers = eqb (length filter) filter_length && leb most_calls (length kinds) && leb most_numbers (length numbers)
 
 -- a sheet at the front of the runs; where there is none they stay
-abbrev pub in_runs : Option Sheet → List ℕ → List ℕ → List ℕ → Runs
-in_runs none filter kinds numbers = runs (Refused sheet_refusal) filter kinds numbers
-in_runs (some sheet) filter kinds numbers =
-    runs (Length (length sheet.calls)) sheet.filter (placed kinds 0 (kinds_of sheet.calls)) (placed numbers 0 (bits_of sheet.calls))
+abbrev pub in_runs : Option Sheet → List ℕ → List Kind → List ℕ → Runs
+in_runs None filter kinds numbers = runs (Err refusal.Sheet) filter kinds numbers
+in_runs (Some sheet) filter kinds numbers =
+    runs (Ok (length sheet.calls)) sheet.filter (placed kinds 0 (kinds_of sheet.calls)) (placed numbers 0 (bits_of sheet.calls))
 
 -- a file's bytes read into lent runs
-unfoldable pub read_into : List ℕ → List ℕ → List ℕ → List ℕ → Runs
-read_into s filter kinds numbers = cond (runs_fit filter kinds numbers) (in_runs (read_sheet s) filter kinds numbers) (runs (Refused length_refusal) filter kinds numbers)
+unfoldable pub read_into : List ℕ → List ℕ → List Kind → List ℕ → Runs
+read_into s filter kinds numbers = cond (runs_fit filter kinds numbers) (in_runs (read_sheet s) filter kinds numbers) (runs (Err refusal.Length) filter kinds numbers)
 
 -- ---- the way back
 
--- the call of a kind that has the first of some bits, before those that the others give; none where there is no kind, or too few bits
-abbrev pub call_from : Option Kind → List ℕ → (List ℕ → Option (List SheetCall)) → Option (List SheetCall)
-call_from none bits rest = none
-call_from (some kind) bits rest =
+-- the call of a kind that has the first of some bits, before those that the others give; None where there are too few bits
+abbrev pub call_from : Kind → List ℕ → (List ℕ → Option (List SheetCall)) → Option (List SheetCall)
+call_from kind bits rest =
     let n = call_length kind in
-    cond (leb n (length bits)) (with_call (sheet_call kind (take n bits)) (rest (drop n bits))) none
+    cond (leb n (length bits)) (with_call (sheet_call kind (take n bits)) (rest (drop n bits))) None
 
--- the calls of the kinds of some numbers, with the bits of their numbers one after another
-unfoldable pub calls_in : List ℕ → List ℕ → Option (List SheetCall)
-calls_in [] bits = some []
-calls_in (k ∷ ks) bits = call_from (kind_of k) bits (calls_in ks)
+-- the calls of some kinds, with the bits of their numbers one after another
+unfoldable pub calls_in : List Kind → List ℕ → Option (List SheetCall)
+calls_in [] bits = Some []
+calls_in (kind ∷ kinds) bits = call_from kind bits (calls_in kinds)
 
 -- a sheet has its place in the runs, and the runs give its calls back, whatever follows in them
 pub record Held (sheet : Sheet) : Type 0 where
   pub filter : length sheet.filter ≡ filter_length
   pub calls : length sheet.calls ≤ most_calls
   pub numbers : length (bits_of sheet.calls) ≤ most_numbers
-  pub back : (others : List ℕ) → calls_in (kinds_of sheet.calls) (bits_of sheet.calls ++ others) ≡ some sheet.calls
+  pub back : (others : List ℕ) → calls_in (kinds_of sheet.calls) (bits_of sheet.calls ++ others) ≡ Some sheet.calls
 
 -- so it is for every sheet that is read
 abbrev pub SheetsHeld : Type 0
-SheetsHeld = (s : List ℕ) (sheet : Sheet) → read_sheet s ≡ some sheet → Held sheet
+SheetsHeld = (s : List ℕ) (sheet : Sheet) → read_sheet s ≡ Some sheet → Held sheet

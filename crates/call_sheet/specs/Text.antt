@@ -1,17 +1,14 @@
 -- The text that is printed for a call sheet, in ASCII. Definitions and statements only.
-use Rattle.std.specs.Prelude.{ℕ, ◌+◌, ◌≤◌, cond, List, [], ◌∷◌, ◌++◌, map, leb, length, Float}
-use Rattle.std.proofs.Math.Option.{Option, none, some}
+use Rattle.std.specs.Prelude.{ℕ, ◌+◌, ◌≤◌, cond, List, [], ◌∷◌, ◌++◌, map, leb, length, Float, Option, Some, None, Result, Ok, Err}
 use Rattle.std.specs.Float.{binary64}
 use Rattle.std.specs.Float.Ieee.{to_bits}
 unfoldable pub use Rattle.little_endian.specs.Bits.{numbers_of}
-use Rattle.drifters_eqf.specs.Answer.{length_refusal, sheet_refusal}
+use Rattle.drifters_eqf.specs.Answer.{sheet_refusal, Answer, Nis, Fine, Refused}
+use Rattle.drifters_eqf.specs.declared.answer.Refusal.{Refusal}
+use Rattle.drifters_eqf.specs.declared.answer.Refusal.TheVariants as refusal
 use Rattle.drifters_kind.specs.Kind.{kind_number}
 use Rattle.drifters_entry.specs.Log.{Call, LogEntry, Log, entries_from, log_of}
-use Rattle.drifters_eqf.specs.declared.filter.Answer.{Answer}
-use Rattle.drifters_eqf.specs.declared.filter.Answer.TheVariants.{Nis, Fine, Refused}
 use Rattle.drifters_kind.specs.declared.kind.Kind.{Kind}
-use Rattle.call_sheet.specs.declared.sheet.Filled.{Filled}
-use Rattle.call_sheet.specs.declared.sheet.Filled.TheVariants as filled
 use Rattle.little_endian.specs.Bytes.{placed}
 use Rattle.call_sheet.specs.Digits.{digits, decimal}
 use Rattle.call_sheet.specs.Sheet.{SheetCall, Sheet, read_sheet}
@@ -61,13 +58,13 @@ lines_text i (e ∷ es) = line_text i e.called.kind e.answer ++ lines_text (i + 
 
 -- the lines of calls, made on a filter's run; none where there are no calls
 abbrev pub lines_of : List Float → Option (List SheetCall) → List ℕ
-lines_of run none = []
-lines_of run (some calls) = lines_text 1 (entries_from run (map call_of calls))
+lines_of run None = []
+lines_of run (Some calls) = lines_text 1 (entries_from run (map call_of calls))
 
 -- the text of a sheet: the lines of its log; of a broken one only that it is refused
 abbrev pub text_of : Option Sheet → List ℕ
-text_of none = refused_line sheet_refusal
-text_of (some sheet) = lines_text 1 (sheet_log sheet).entries
+text_of None = refused_line sheet_refusal
+text_of (Some sheet) = lines_text 1 (sheet_log sheet).entries
 
 -- the text that is printed for a file's bytes
 unfoldable pub sheet_text : List ℕ → List ℕ
@@ -81,16 +78,16 @@ most_text = 5865
 abbrev pub TextFits : Type 0
 TextFits = (s : List ℕ) → length (sheet_text s) ≤ most_text
 
--- the text's length, or the number of the refusal, and the run of bytes afterwards
+-- the text's length, or the refusal, and the run of bytes afterwards
 pub record Printed : Type 0 where
-  pub answer : Filled
+  pub answer : Result ℕ Refusal
   pub text : List ℕ
 
 -- what is printed, of its parts
-abbrev pub printed : Filled → List ℕ → Printed
+abbrev pub printed : Result ℕ Refusal → List ℕ → Printed
 printed answer text = record { answer = answer; text = text }
 
 -- the text for a file's bytes at the front of a lent run; one that is shorter than `most_text` stays
 unfoldable pub print_into : List ℕ → List ℕ → Printed
 print_into s text =
-    cond (leb most_text (length text)) (printed (filled.Length (length (sheet_text s))) (placed text 0 (sheet_text s))) (printed (filled.Refused length_refusal) text)
+    cond (leb most_text (length text)) (printed (Ok (length (sheet_text s))) (placed text 0 (sheet_text s))) (printed (Err refusal.Length) text)

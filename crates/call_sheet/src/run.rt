@@ -1,40 +1,39 @@
 // Running a call sheet: its bytes in, the text of its answers out.
 ghost use Rattle.std.specs.Prelude.{◌≡◌, true, ◌+◌, ◌*◌, ◌≤◌, length, take};
 ghost use Rattle.drifters_kind.specs.Kind.{call_length};
+ghost use Rattle.drifters_eqf.specs.Answer.{refusal_number, answer_of};
 ghost use Rattle.drifters_entry.specs.Log.{outcome_on};
 ghost use Rattle.little_endian.specs.Bytes.{placed};
 ghost use Rattle.call_sheet.specs.Sheet.{sheet_call, is_some, calls_in};
 ghost use Rattle.call_sheet.specs.Text.{refused_line, call_of, lines_of, sheet_text, printed, print_into};
 
-use crate::sheet::{Filled, MOST_CALLS, MOST_NUMBERS, read_sheet};
+use crate::sheet::{MOST_CALLS, MOST_NUMBERS, read_sheet};
 use crate::text::{put, put_answer, put_line};
 use drifters_entry::entry::{FILTER_LENGTH, call};
-use drifters_eqf::filter::{Answer, LENGTH_REFUSAL};
-use drifters_kind::kind::{
-    FoundKind, Kind, MOST_CALL_NUMBERS, STATE_LENGTH, call_length, kind_of, written_length,
-};
+use drifters_eqf::answer::{Answer, Refusal};
+use drifters_kind::kind::{Kind, MOST_CALL_NUMBERS, STATE_LENGTH};
 use little_endian::bits::numbers_of;
 
 // Room for every sheet's text: 23 bytes for each of 255 calls.
 pub const MOST_TEXT: usize = 5865;
 
 // Runs a sheet and writes the text of its answers to the front of `text`. Answers the text's length.
-pub fn run_sheet(s: &[u8], text: &mut [u8]) -> Filled
+pub fn run_sheet(s: &[u8], text: &mut [u8]) -> Result<usize, Refusal>
     ensures { printed result text.new ≡ print_into s.now text.old }
 {
     if text.len() < MOST_TEXT {
-        return Filled::Refused(LENGTH_REFUSAL);
+        return Err(Refusal::Length);
     }
     let mut filter = [0u64; FILTER_LENGTH];
-    let mut kinds = [0u32; MOST_CALLS];
+    let mut kinds = [Kind::State; MOST_CALLS];
     let mut numbers = [0u64; MOST_NUMBERS];
     match read_sheet(s, &mut filter, &mut kinds, &mut numbers) {
-        Filled::Length(n) => {
+        Ok(n) => {
             let mut run = [0.0; FILTER_LENGTH];
             numbers_of(&filter, &mut run);
-            Filled::Length(run_calls(&mut run, &kinds[..n], &numbers, text))
+            Ok(run_calls(&mut run, &kinds[..n], &numbers, text))
         }
-        Filled::Refused(n) => Filled::Length(put_refused(text, n)),
+        Err(refusal) => Ok(put_refused(text, refusal)),
     }
 }
 
@@ -43,36 +42,31 @@ pub fn sheet_text(s: &[u8], text: &mut [u8; MOST_TEXT]) -> usize
     ensures value { (result ≡ length (sheet_text s.now)) × (text.new ≡ placed text.old 0 (sheet_text s.now)) }
     ensures upper_bound { (result ≤ length text.new) × (result ≡ length (take result text.new)) }
 {
-    match run_sheet(s, text) {
-        Filled::Length(n) => n,
-        Filled::Refused(_) => 0,
-    }
+    run_sheet(s, text).unwrap()
 }
 
 // The line of a sheet that is refused.
-fn put_refused(text: &mut [u8], n: u32) -> usize
+fn put_refused(text: &mut [u8], refusal: Refusal) -> usize
     requires { 17 ≤ length text.old }
-    ensures { (result ≡ length (refused_line n)) × (text.new ≡ placed text.old 0 (refused_line n)) }
+    ensures { (result ≡ length (refused_line (refusal_number refusal))) × (text.new ≡ placed text.old 0 (refused_line (refusal_number refusal))) }
 {
-    let end = put_answer(text, 0, Answer::Refused(n));
+    let end = put_answer(text, 0, Err(refusal));
     put(text, end, b"\n")
 }
 
-// Makes the calls in turn, each on the filter that the one before it left, and writes their lines to the front of `text`. Answers the length of
-// these. What is asked rules out a number that is of no kind.
-fn run_calls(run: &mut [f64], kinds: &[u32], numbers: &[u64], text: &mut [u8]) -> usize
+// Makes the calls in turn, each on the filter that the one before it left, and writes their lines to the front of `text`. Kinds and numbers
+// stand in two runs: there is no heap for a list of calls of different lengths. Answers the length of
+// these.
+fn run_calls(run: &mut [f64], kinds: &[Kind], numbers: &[u64], text: &mut [u8]) -> usize
     requires { (is_some (calls_in kinds.now numbers.now) ≡ true) × (23 * length kinds.now ≤ length text.old) }
     ensures { (result ≡ length (lines_of run.old (calls_in kinds.now numbers.now))) × (text.new ≡ placed text.old 0 (lines_of run.old (calls_in kinds.now numbers.now))) }
 {
     let mut at = 0;
     let mut length = 0;
-    for i in 0..kinds.len() {
-        let FoundKind::Known(kind) = kind_of(kinds[i]) else {
-            return 0;
-        };
-        let end = at + call_length(kind);
-        let answer = run_call(kind, run, &numbers[at..end]);
-        length = put_line(text, length, i + 1, kind, answer);
+    for (i, kind) in kinds.iter().enumerate() {
+        let end = at + kind.call_length();
+        let answer = run_call(*kind, run, &numbers[at..end]);
+        length = put_line(text, length, i + 1, *kind, answer);
         at = end;
     }
     length
@@ -81,12 +75,12 @@ fn run_calls(run: &mut [f64], kinds: &[u32], numbers: &[u64], text: &mut [u8]) -
 // Makes a call whose numbers are given by their bits; what a state call writes is not printed.
 fn run_call(kind: Kind, run: &mut [f64], bits: &[u64]) -> Answer
     requires { length bits.now ≡ call_length kind }
-    ensures { (result ≡ (outcome_on run.old (call_of (sheet_call kind bits.now))).answer) × (run.new ≡ (outcome_on run.old (call_of (sheet_call kind bits.now))).run) }
+    ensures { (answer_of result ≡ (outcome_on run.old (call_of (sheet_call kind bits.now))).answer) × (run.new ≡ (outcome_on run.old (call_of (sheet_call kind bits.now))).run) }
 {
     let mut numbers = [0.0; MOST_CALL_NUMBERS];
     let n = bits.len();
     numbers_of(bits, &mut numbers[..n]);
     let mut state = [0.0; STATE_LENGTH];
-    let m = written_length(kind);
+    let m = kind.written_length();
     call(kind, run, &numbers[..n], &mut state[..m])
 }

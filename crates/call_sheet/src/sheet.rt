@@ -1,11 +1,12 @@
 // The layout of a call sheet, and the runs that it is read into. A table of n entries ends at 4 + 8 * n: the count, and eight bytes for each.
-ghost use Rattle.std.specs.Prelude.{◌≡◌, ◌+◌, ◌-◌, ◌*◌, ◌≤◌, length};
+ghost use Rattle.std.specs.Prelude.{◌≡◌, ◌+◌, ◌-◌, ◌*◌, ◌≤◌, ◌<◌, true, ℕ, length, map, option_map};
 ghost use Rattle.drifters_matrix.specs.Matrix.{tab};
-ghost use Rattle.call_sheet.specs.Sheet.{most_entries, kind_at, filter_end, calls_at, read_sheet, is_some, runs, read_into};
+ghost use Rattle.drifters_kind.specs.Kind.{kind_of};
+ghost use Rattle.call_sheet.specs.Sheet.{most_entries, count_of, kind_at, filter_end, calls_at, read_sheet, is_some, runs, read_into};
 
 use drifters_entry::entry::FILTER_LENGTH;
-use drifters_eqf::filter::LENGTH_REFUSAL;
-use drifters_kind::kind::{FoundKind, call_length, kind_of};
+use drifters_eqf::answer::Refusal;
+use drifters_kind::kind::Kind;
 use little_endian::bytes::{u32_at, u64s_at};
 
 // The most entries of a sheet, the filter counted.
@@ -20,54 +21,46 @@ pub const MOST_CALLS: usize = 255;
 // Room for the numbers of all its calls: each is eight bytes.
 pub const MOST_NUMBERS: usize = 8192;
 
-// The number of the refusal of a sheet.
-pub const SHEET_REFUSAL: u32 = 6;
-
-// How many places of a lent run were filled, or the number of the refusal.
-#[derive(Clone, Copy)]
-pub enum Filled {
-    Length(usize),
-    Refused(u32),
-}
-
 // Reads a sheet: the bits of its filter, the kinds of its calls, and the bits of their numbers one after another, as many as each kind has
-// (`call_length`). Answers how many calls it has.
-pub fn read_sheet(s: &[u8], filter: &mut [u64], kinds: &mut [u32], numbers: &mut [u64]) -> Filled
+// (`Kind::call_length`). Answers how many calls it has.
+pub fn read_sheet(
+    s: &[u8],
+    filter: &mut [u64],
+    kinds: &mut [Kind],
+    numbers: &mut [u64],
+) -> Result<usize, Refusal>
     ensures { runs result filter.new kinds.new numbers.new ≡ read_into s.now filter.old kinds.old numbers.old }
 {
     if filter.len() != FILTER_LENGTH || kinds.len() < MOST_CALLS || numbers.len() < MOST_NUMBERS {
-        return Filled::Refused(LENGTH_REFUSAL);
+        return Err(Refusal::Length);
     }
-    if !is_sheet(s) {
-        return Filled::Refused(SHEET_REFUSAL);
-    }
-    let n = u32_at(s, 0) as usize;
+    let n = entries(s).ok_or(Refusal::Sheet)?;
     u64s_at(s, 4 + 8 * n, filter);
     read_kinds(s, &mut kinds[..n - 1]);
     let end = 4 + 8 * n + 8 * FILTER_LENGTH;
     let m = (s.len() - end) / 8;
     u64s_at(s, end, &mut numbers[..m]);
-    Filled::Length(n - 1)
+    Ok(n - 1)
 }
 
-// Whether the bytes are a sheet.
-fn is_sheet(s: &[u8]) -> bool
-    ensures { result ≡ is_some (read_sheet s.now) }
+// How many entries a sheet has; None where the bytes are no sheet.
+fn entries(s: &[u8]) -> Option<usize>
+    ensures { result ≡ option_map (λ sheet. count_of s.now) (read_sheet s.now) }
 {
     if s.len() < 4 || MOST_BYTES < s.len() {
-        return false;
+        return None;
     }
     let n = u32_at(s, 0) as usize;
     if n < 1 || MOST_ENTRIES < n {
-        return false;
+        return None;
     }
     if s.len() < 4 + 8 * n + 8 * FILTER_LENGTH {
-        return false;
+        return None;
     }
     if u32_at(s, 4) != 0 || u32_at(s, 8) as usize != 4 + 8 * n {
-        return false;
+        return None;
     }
-    calls_fit(s, n)
+    calls_fit(s, n).then_some(n)
 }
 
 // Whether the entries after the filter are calls whose bodies follow each other to the end of the file.
@@ -77,24 +70,25 @@ fn calls_fit(s: &[u8], n: usize) -> bool
 {
     let mut place = 4 + 8 * n + 8 * FILTER_LENGTH;
     for i in 1..n {
-        let FoundKind::Known(kind) = kind_of(u32_at(s, 4 + 8 * i)) else {
+        let Some(kind) = Kind::from_number(u32_at(s, 4 + 8 * i)) else {
             return false;
         };
         let offset = u32_at(s, 8 + 8 * i) as usize;
         if offset != place {
             return false;
         }
-        place += 8 * call_length(kind);
+        place += 8 * kind.call_length();
     }
     place == s.len()
 }
 
 // The kinds of the calls, as the table has them.
-fn read_kinds(s: &[u8], kinds: &mut [u32])
-    requires { 12 + 8 * length kinds.old ≤ length s.now }
-    ensures { kinds.new ≡ tab (length kinds.old) (λ i. kind_at s.now (1 + i)) }
+fn read_kinds(s: &[u8], kinds: &mut [Kind])
+    requires bytes { 12 + 8 * length kinds.old ≤ length s.now }
+    requires known { (i : ℕ) → i < length kinds.old → is_some (kind_of (kind_at s.now (1 + i))) ≡ true }
+    ensures { map (λ kind. Some kind) kinds.new ≡ tab (length kinds.old) (λ i. kind_of (kind_at s.now (1 + i))) }
 {
-    for i in 0..kinds.len() {
-        kinds[i] = u32_at(s, 12 + 8 * i);
+    for (i, kind) in kinds.iter_mut().enumerate() {
+        *kind = Kind::from_number(u32_at(s, 12 + 8 * i)).unwrap();
     }
 }

@@ -1,44 +1,30 @@
-// Text: of an answer, `ok`, the digits of a normalised innovation squared, or the number of a refusal; and the line of a call.
-ghost use Rattle.std.specs.Prelude.{◌≡◌, ◌+◌, ◌-◌, ◌≤◌, ◌<◌, ◌++◌, length, replicate};
+// Text: of an answer, `ok`, the digits of a normalised innovation squared, or the number of a refusal; and the line of a call. The place that text
+// is put at and the run that it is put into are parameters: a struct of both would lend the run, and its contracts would be about the loan besides.
+ghost use Rattle.std.specs.Prelude.{◌≡◌, ◌+◌, ◌≤◌, ◌<◌, length};
 ghost use Rattle.drifters_kind.specs.Kind.{kind_number};
+ghost use Rattle.drifters_eqf.specs.Answer.{answer_of};
 ghost use Rattle.little_endian.specs.Bytes.{placed};
 ghost use Rattle.call_sheet.specs.Digits.{digit, digits, decimal};
-ghost use Rattle.call_sheet.specs.Text.{refused_text, answer_text, line_text};
+ghost use Rattle.call_sheet.specs.Text.{answer_text, line_text};
 
-use drifters_eqf::filter::Answer;
-use drifters_kind::kind::{Kind, form_of};
+use drifters_eqf::answer::Answer;
+use drifters_kind::kind::Kind;
 use little_endian::bits::bits_of;
 
-// Text of at most 16 bytes: the first `length` of them; the others are 0.
-#[derive(Clone, Copy)]
-pub struct Text {
-    pub bytes: [u8; 16],
-    pub length: usize,
-}
+// The most bytes of an answer's text.
+pub const MOST_ANSWER: usize = 16;
 
-// The text of an answer.
-pub fn answer_text(answer: Answer) -> Text
-    ensures { (result.length ≡ length (answer_text answer)) × ((result.bytes ≡ answer_text answer ++ replicate (16 - result.length) 0) × (result.length ≤ 16)) }
+// The text of an answer, to the front of `bytes`, of which the others stay. Answers its length.
+pub fn answer_text(answer: Answer, bytes: &mut [u8; MOST_ANSWER]) -> usize
+    ensures { (result ≡ length (answer_text (answer_of answer))) × ((bytes.new ≡ placed bytes.old 0 (answer_text (answer_of answer))) × (result ≤ 16)) }
 {
-    let mut bytes = [0u8; 16];
-    match answer {
-        Answer::Nis(x) => {
-            put_digits(&mut bytes, bits_of(x), 16);
-            Text { bytes, length: 16 }
-        }
-        Answer::Fine => {
-            bytes[0] = b'o';
-            bytes[1] = b'k';
-            Text { bytes, length: 2 }
-        }
-        Answer::Refused(n) => refused_text(n as u64),
-    }
+    put_answer(bytes, 0, answer)
 }
 
 // The line of entry i, from place `at` of `out` on: index, kind, answer. Answers where it ends.
 pub(crate) fn put_line(out: &mut [u8], at: usize, i: usize, kind: Kind, answer: Answer) -> usize
     requires { at + 23 ≤ length out.old }
-    ensures { (result ≡ at + length (line_text i kind answer)) × ((out.new ≡ placed out.old at (line_text i kind answer)) × (result ≤ at + 23)) }
+    ensures { (result ≡ at + length (line_text i kind (answer_of answer))) × ((out.new ≡ placed out.old at (line_text i kind (answer_of answer))) × (result ≤ at + 23)) }
 {
     let a = put_decimal(out, at, i as u64);
     let b = put(out, a, b" ");
@@ -53,18 +39,26 @@ fn put_kind(out: &mut [u8], at: usize, kind: Kind) -> usize
     requires { at + 3 ≤ length out.old }
     ensures { (result ≡ at + length (decimal (kind_number kind))) × ((out.new ≡ placed out.old at (decimal (kind_number kind))) × (result ≤ at + 1)) }
 {
-    let form = form_of(kind);
-    put_decimal(out, at, form.number as u64)
+    put_decimal(out, at, u64::from(kind.form().number))
 }
 
 // The text of an answer, from place `at` of `out` on. Answers where it ends.
 pub(crate) fn put_answer(out: &mut [u8], at: usize, answer: Answer) -> usize
     requires { at + 16 ≤ length out.old }
-    ensures { (result ≡ at + length (answer_text answer)) × ((out.new ≡ placed out.old at (answer_text answer)) × (result ≤ at + 16)) }
+    ensures { (result ≡ at + length (answer_text (answer_of answer))) × ((out.new ≡ placed out.old at (answer_text (answer_of answer))) × (result ≤ at + 16)) }
 {
-    let text = answer_text(answer);
-    let bytes = text.bytes;
-    put(out, at, &bytes[..text.length])
+    match answer {
+        Ok(Some(x)) => {
+            let end = at + 16;
+            put_digits(&mut out[at..end], bits_of(x), 16);
+            end
+        }
+        Ok(None) => put(out, at, b"ok"),
+        Err(refusal) => {
+            let end = put(out, at, b"refused ");
+            put_decimal(out, end, u64::from(u32::from(refusal)))
+        }
+    }
 }
 
 // A number in decimal, from place `at` of `out` on. Answers where it ends.
@@ -82,25 +76,13 @@ pub(crate) fn put(out: &mut [u8], at: usize, bytes: &[u8]) -> usize
     requires { at + length bytes.now ≤ length out.old }
     ensures { (result ≡ at + length bytes.now) × (out.new ≡ placed out.old at bytes.now) }
 {
-    for i in 0..bytes.len() {
-        out[at + i] = bytes[i];
-    }
-    at + bytes.len()
-}
-
-// The text of a refusal.
-fn refused_text(n: u64) -> Text
-    ensures { (result.length ≡ length (refused_text n)) × ((result.bytes ≡ refused_text n ++ replicate (16 - result.length) 0) × (result.length ≤ 16)) }
-{
-    let mut bytes = [
-        b'r', b'e', b'f', b'u', b's', b'e', b'd', b' ', 0, 0, 0, 0, 0, 0, 0, 0,
-    ];
-    let length = 8 + decimal_length(n);
-    put_digits(&mut bytes[8..length], n, 10);
-    Text { bytes, length }
+    let end = at + bytes.len();
+    out[at..end].copy_from_slice(bytes);
+    end
 }
 
 // How many digits of a number are printed in decimal: of one below 1000 all, of a larger one the last three.
+#[tactic(auto, unfolding(crate::specs::Digits::decimal))]
 fn decimal_length(n: u64) -> usize
     ensures { (decimal n ≡ digits 10 result n) × (result ≤ 3) }
 {
@@ -119,11 +101,10 @@ fn put_digits(out: &mut [u8], n: u64, base: u64)
     ensures { out.new ≡ digits base (length out.old) n }
 {
     let mut m = n;
-    let mut j = out.len();
-    while 0 < j {
-        j -= 1;
+    // By index: while `iter_mut().rev()` lends `out`, an invariant does not see it.
+    for j in (0..out.len()).rev() {
         out[j] = digit(m % base);
-        m = m / base;
+        m /= base;
     }
 }
 
@@ -133,7 +114,7 @@ fn digit(d: u64) -> u8
     ensures { result ≡ digit d }
 {
     if d < 10 {
-        return (48 + d) as u8;
+        return b'0' + d as u8;
     }
-    (55 + d) as u8
+    b'A' + (d - 10) as u8
 }

@@ -4,7 +4,7 @@ ghost use Rattle.drifters_adjoint.specs.Adjoint.{most_halvings, halvings, halved
 
 use crate::series::sum_series;
 use drifters_lie::lie::{Se3, Se3Tangent};
-use drifters_matrix::math::shapes::Mat6;
+use drifters_matrix::math::matrix::Mat6;
 use drifters_real::math::real::max;
 
 // The most halvings made.
@@ -21,13 +21,17 @@ struct Halved {
 fn halve(v: Se3Tangent) -> Halved
     ensures { (result.halvings ≡ halvings most_halvings v) × (result.w ≡ halved (halvings most_halvings v) v) }
 {
-    let mut n = 0;
     let mut w = v;
-    while max(w.omega.amax(), w.nu.amax()) > 0.0625 && n < MOST_HALVINGS {
+    for n in 0..MOST_HALVINGS {
+        if !(max(w.omega.amax(), w.nu.amax()) > 0.0625) {
+            return Halved { w, halvings: n };
+        }
         w = Se3Tangent::new(w.omega.mul(0.5), w.nu.mul(0.5));
-        n += 1;
     }
-    Halved { w, halvings: n }
+    Halved {
+        w,
+        halvings: MOST_HALVINGS,
+    }
 }
 
 // psi of w, doubled back over n halvings.
@@ -37,10 +41,8 @@ fn double(n: usize, w: Se3Tangent, psi: Mat6) -> Mat6
     let mut v = w;
     let mut out = psi;
     for _ in 0..n {
-        out = Mat6::identity()
-            .add(Se3::exp(v).adjoint())
-            .matmul(out)
-            .scaled(0.5);
+        let step: Mat6 = Mat6::identity().add(Se3::exp(v).adjoint()).matmul(&out);
+        out = step.scaled(0.5);
         v = Se3Tangent::new(v.omega.mul(2.0), v.nu.mul(2.0));
     }
     out

@@ -6,17 +6,18 @@ ghost use Rattle.drifters_adjoint.specs.Adjoint.{series};
 ghost use Rattle.drifters_adjoint.specs.Series.{whole, identity_blocks, ad_blocks, product_at, add_terms, blocks_series};
 
 use drifters_lie::lie::Se3Tangent;
-use drifters_matrix::math::matrix::all_finite;
-use drifters_matrix::math::shapes::Mat6;
+use drifters_matrix::math::matrix::{Mat6, Matrix};
 
-// The identity, and the terms 1 to 15 of the series of m added to it.
+// The identity, and the terms 1 to 15 of the series of m added to it. `Blocks::series` is the same loop: a trait over both types would take four
+// methods and what each gives, twice, which is longer than the second loop.
 fn matrix_series(m: Mat6) -> Mat6
     ensures { result.data ≡ series m.data 15 }
 {
     let mut term = Mat6::identity();
     let mut psi = term;
     for k in 1u32..16 {
-        term = term.matmul(m).scaled(1.0 / (k + 1) as f64);
+        let next: Mat6 = term.matmul(&m);
+        term = next.scaled(1.0 / (k + 1) as f64);
         psi = psi.add(term);
     }
     psi
@@ -26,7 +27,7 @@ fn matrix_series(m: Mat6) -> Mat6
 // the terms of its series: half the numbers, and no products with the zero block.
 #[derive(Clone, Copy)]
 struct Blocks {
-    data: [f64; 18],
+    columns: Matrix<6, 3, 18>,
 }
 
 // Three terms of an entry of a product added to acc, in their order: of a row of t from the place `row` on, and of a column of m from `column` on.
@@ -39,34 +40,35 @@ fn add_terms(acc: f64, t: &[f64; 18], row: usize, m: &[f64; 18], column: usize) 
 
 impl Blocks {
     fn identity() -> Blocks
-        ensures { result.data ≡ identity_blocks }
+        ensures { result.columns.data ≡ identity_blocks }
     {
         let mut data = [0.0; 18];
         data[0] = 1.0;
         data[4] = 1.0;
         data[8] = 1.0;
-        Blocks { data }
+        let columns = Matrix { data };
+        Blocks { columns }
     }
 
     // The matrix of the bracket with w.
     fn ad(w: Se3Tangent) -> Blocks
-        ensures { result.data ≡ ad_blocks w }
+        ensures { result.columns.data ≡ ad_blocks w }
     {
         let o = w.omega;
         let n = w.nu;
-        Blocks {
-            data: [
-                0.0, -o.z, o.y, o.z, 0.0, -o.x, -o.y, o.x, 0.0, 0.0, -n.z, n.y, n.z, 0.0, -n.x,
-                -n.y, n.x, 0.0,
-            ],
-        }
+        let data = [
+            0.0, -o.z, o.y, o.z, 0.0, -o.x, -o.y, o.x, 0.0, 0.0, -n.z, n.y, n.z, 0.0, -n.x, -n.y,
+            n.x, 0.0,
+        ];
+        let columns = Matrix { data };
+        Blocks { columns }
     }
 
     // All 36 entries.
     fn whole(self) -> Mat6
-        ensures { result.data ≡ whole self.data }
+        ensures { result.data ≡ whole self.columns.data }
     {
-        let t = self.data;
+        let t = self.columns.data;
         Mat6 {
             data: [
                 t[0], t[1], t[2], 0.0, 0.0, 0.0, t[3], t[4], t[5], 0.0, 0.0, 0.0, t[6], t[7], t[8],
@@ -77,15 +79,17 @@ impl Blocks {
     }
 
     // The product with m. With P and Q of the matrix and R and S of m it has P R, and Q R + P S: first the terms of Q, then those of P. Carried
-    // along are the start of the row that is made, s, and that of the row of P beside a row of Q, `upper`.
+    // along are the start of the row that is made, s, and that of the row of P beside a row of Q, `upper`, so that the loops go by index.
     fn matmul(self, m: Blocks) -> Blocks
-        ensures { result.data ≡ matrix 6 3 (product_at self.data m.data) }
+        ensures { result.columns.data ≡ matrix 6 3 (product_at self.columns.data m.columns.data) }
     {
+        let t = &self.columns.data;
+        let r = &m.columns.data;
         let mut data = [0.0; 18];
         let mut s = 0;
         for _ in 0usize..3 {
             for j in 0..3 {
-                data[s + j] = add_terms(0.0, &self.data, s, &m.data, j);
+                data[s + j] = add_terms(0.0, t, s, r, j);
             }
             s += 3;
         }
@@ -93,39 +97,33 @@ impl Blocks {
         for _ in 3usize..6 {
             for j in 0..3 {
                 let below = j + 9;
-                let sum = add_terms(0.0, &self.data, s, &m.data, j);
-                data[s + j] = add_terms(sum, &self.data, upper, &m.data, below);
+                let sum = add_terms(0.0, t, s, r, j);
+                data[s + j] = add_terms(sum, t, upper, r, below);
             }
             upper += 3;
             s += 3;
         }
-        Blocks { data }
+        let columns = Matrix { data };
+        Blocks { columns }
     }
 
     fn scaled(self, s: f64) -> Blocks
-        ensures { result.data ≡ scaled 18 self.data s }
+        ensures { result.columns.data ≡ scaled 18 self.columns.data s }
     {
-        let mut data = self.data;
-        for k in 0..18 {
-            data[k] = data[k] * s;
-        }
-        Blocks { data }
+        let columns = self.columns.scaled(s);
+        Blocks { columns }
     }
 
     fn add(self, t: Blocks) -> Blocks
-        ensures { result.data ≡ add_matrix 18 self.data t.data }
+        ensures { result.columns.data ≡ add_matrix 18 self.columns.data t.columns.data }
     {
-        let mut data = self.data;
-        let rhs = t.data;
-        for k in 0..18 {
-            data[k] = data[k] + rhs[k];
-        }
-        Blocks { data }
+        let columns = self.columns.add(t.columns);
+        Blocks { columns }
     }
 
     // The series of m.
     fn series(m: Blocks) -> Blocks
-        ensures { result.data ≡ blocks_series m.data 15 }
+        ensures { result.columns.data ≡ blocks_series m.columns.data 15 }
     {
         let mut term = Blocks::identity();
         let mut psi = term;
@@ -145,7 +143,7 @@ pub(crate) fn sum_series(w: Se3Tangent) -> Mat6
 {
     let m = Blocks::ad(w);
     let psi = Blocks::series(m);
-    if all_finite(&m.data) & all_finite(&psi.data) {
+    if m.columns.is_finite() & psi.columns.is_finite() {
         return psi.whole();
     }
     matrix_series(w.ad())

@@ -1,9 +1,10 @@
 -- Port of the factorisation of math/matrix.rs, for all widths. Definitions and statements only.
-use Rattle.std.specs.Prelude.{ℕ, zero, suc, ◌+◌, ◌-◌, ◌*◌, ◌≤◌, ◌<◌, ◌≡◌, Bool, true, false, not, ◌||◌, cond, List, eqb, set, Float}
+use Rattle.std.specs.Prelude.{ℕ, zero, suc, ◌+◌, ◌-◌, ◌*◌, ◌≤◌, ◌<◌, ◌≡◌, Bool, true, false, not, ◌||◌, cond, List, Option, Some, None, eqb, set, Float}
 use Rattle.std.specs.Float.Ieee.{le}
 use Rattle.drifters_real.specs.Scalar.{◌⊖◌, ◌⊗◌, ◌⊘◌, plus_zero}
 use Rattle.drifters_real.specs.Real.{sqrt, is_finite}
 use Rattle.drifters_matrix.specs.Matrix.{at, matrix, zeros}
+use Rattle.drifters_cholesky.specs.declared.math.cholesky.Cholesky.{Cholesky}
 
 -- a pivot at which the factorisation stops: not finite, or at most 0
 abbrev pub bad_pivot : Float → Bool
@@ -13,6 +14,11 @@ bad_pivot x = not (is_finite x) || le x plus_zero
 pub data Factor : Type 0 where
   none : Factor
   lower : List Float → Factor
+
+-- the lower factor that the factorisation answers with, or none
+abbrev pub factor_of : {n nn : ℕ} → Option (Cholesky n nn) → Factor
+factor_of None = none
+factor_of (Some c) = lower c.lower.«data»
 
 -- whether there is a factor
 abbrev pub definite : Factor → Bool

@@ -4,26 +4,18 @@ use mathlib.Core.Path.{◌≡◌, refl, sym, ap, ◌∙◌}
 use mathlib.Core.Bool.{true, false}
 use mathlib.Core.List.{List, []}
 use native.Mathlib.Numerals.{add-one}
-use borrow.Author.Tests.{eq-eqb}
-use lib.ListN.{length}
+use Rattle.std.specs.Prelude.{Option, Some, None}
 use lib.Ieee.{Float}
-use Rattle.drifters_eqf.specs.declared.filter.Answer.{Answer}
-use Rattle.drifters_eqf.specs.declared.filter.Answer.TheVariants.{Nis, Fine, Refused}
-use Rattle.drifters_entry.specs.Layout.{copied}
+use Rattle.drifters_eqf.specs.Answer.{Answer, Nis, Fine, Refused}
 use Rattle.drifters_entry.specs.Entry.{Outcome, outcome}
 use Rattle.drifters_compasses.specs.Compasses.{BestTry, reading, takes_place, better_by, better, best_of}
 use Rattle.drifters_compasses.specs.Kept.{best_try}
 use Rattle.drifters_compasses.specs.declared.compasses.Best.{Best}
-use Rattle.drifters_compasses.specs.declared.compasses.Best.TheVariants as best
-
--- a run that is copied to one as long
-pub copied_whole : (from to : List Float) → length to ≡ length from → copied from to ≡ from
-copied_whole from to h = rw (eq-eqb _ _ h)
 
 -- the filter that the best so far left does not matter to the next
-pub takes_place_of : (x : Float) (b : Best) (left : List Float) → takes_place x (best_try b []) ≡ takes_place x (best_try b left)
-takes_place_of x best.None left = refl
-takes_place_of x (best.Reading i y) left = refl
+pub takes_place_of : (x : Float) (b : Option Best) (left : List Float) → takes_place x (best_try b []) ≡ takes_place x (best_try b left)
+takes_place_of x None left = refl
+takes_place_of x (Some b) left = refl
 
 -- try i, with the answer a and the filter left
 module _ (b : BestTry) (i : ℕ) {a : Answer} {left : List Float} {o : Outcome} (made : outcome a left [] ≡ o) where

@@ -1,15 +1,15 @@
 -- One update by the best of several compasses' readings, on lent runs: its answers, and every lent number afterwards. Definitions and statements only.
-use Rattle.std.specs.Prelude.{ℕ, zero, suc, ◌*◌, ◌/◌, ◌%◌, ◌≤◌, min, Bool, true, ◌&&◌, cond, List, [], ◌∷◌, ◌++◌, eqb, leb, length, Float}
+use Rattle.std.specs.Prelude.{ℕ, zero, suc, ◌*◌, ◌/◌, ◌%◌, ◌≤◌, min, Bool, true, ◌&&◌, cond, List, [], ◌∷◌, ◌++◌, eqb, leb, length, Float, Option, Some, Result, Ok, Err}
 use Rattle.std.specs.Float.Ieee.{lt}
 use Rattle.drifters_matrix.specs.Matrix.{all_finite}
-use Rattle.drifters_eqf.specs.Answer.{length_refusal, blank_refusal}
-use Rattle.drifters_eqf.specs.declared.filter.Answer.{Answer}
-use Rattle.drifters_eqf.specs.declared.filter.Answer.TheVariants as direction
+use Rattle.drifters_eqf.specs.Answer.{length_refusal, blank_refusal, refusal_number}
+use Rattle.drifters_eqf.specs.Answer as direction
+use Rattle.drifters_eqf.specs.declared.answer.Refusal.{Refusal}
 use Rattle.drifters_kind.specs.declared.kind.Kind.TheVariants.{Direction}
 use Rattle.drifters_entry.specs.Layout.{filter_length, part}
 use Rattle.drifters_entry.specs.Entry.{Outcome, call}
-use Rattle.drifters_compasses.specs.declared.compasses.CompassesAnswer.{CompassesAnswer}
-use Rattle.drifters_compasses.specs.declared.compasses.CompassesAnswer.TheVariants.{Chosen, None, Refused}
+use Rattle.drifters_compasses.specs.declared.compasses.Best.{Best}
+use Rattle.drifters_compasses.specs.declared.compasses.Tried.{Tried}
 
 -- how many numbers a reading has: a measured vector
 abbrev pub reading_length : ℕ
@@ -57,7 +57,7 @@ takes_place x nothing = true
 takes_place x (reading j y left) = lt x y
 
 -- the best of those so far and try i, by its answer and the filter that it left: a refused one is passed over
-abbrev pub better_by : BestTry → ℕ → Answer → List Float → BestTry
+abbrev pub better_by : BestTry → ℕ → direction.Answer → List Float → BestTry
 better_by b i (direction.Nis x) left = cond (takes_place x b) (reading i x left) b
 better_by b i direction.Fine left = b
 better_by b i (direction.Refused n) left = b
@@ -70,6 +70,23 @@ better b i o = better_by b i o.answer o.run
 unfoldable pub best_of : (ℕ → Outcome) → ℕ → BestTry
 best_of attempts zero = nothing
 best_of attempts (suc k) = better (best_of attempts k) k (attempts k)
+
+-- what an update by several compasses answers: the index of the reading that was applied, its normalised innovation squared, and how many were
+-- tried; how many were tried where none was accepted; or the number of a refusal
+pub data CompassesAnswer : Type 0 where
+  Chosen : ℕ → Float → ℕ → CompassesAnswer
+  None : ℕ → CompassesAnswer
+  Refused : ℕ → CompassesAnswer
+
+-- the answer of k tries, by the best of them
+abbrev pub tried_answer : ℕ → Option Best → CompassesAnswer
+tried_answer k (Some b) = Chosen b.index b.nis k
+tried_answer k _ = None k
+
+-- the answer that the code gives
+abbrev pub compasses_answer_of : Result Tried Refusal → CompassesAnswer
+compasses_answer_of (Ok t) = tried_answer t.tried t.best
+compasses_answer_of (Err r) = Refused (refusal_number r)
 
 -- an answer, and the filter's run, as they are after a call
 pub record CompassesOutcome : Type 0 where

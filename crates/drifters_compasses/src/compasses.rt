@@ -2,12 +2,13 @@
 // smallest normalised innovation squared is applied.
 ghost use Rattle.std.specs.Prelude.{◌≡◌, [], ◌+◌, ◌*◌, ◌≤◌, length};
 ghost use Rattle.drifters_entry.specs.Layout.{filter_length};
-ghost use Rattle.drifters_compasses.specs.Compasses.{reading_length, north_noise_length, compasses_fit, tried, direction_numbers, attempt, takes_place, better, best_of, compasses_outcome, update_compasses};
+ghost use Rattle.drifters_compasses.specs.Compasses.{reading_length, north_noise_length, compasses_fit, compasses_answer_of, direction_numbers, attempt, takes_place, better, best_of, compasses_outcome, update_compasses};
 ghost use Rattle.drifters_compasses.specs.Kept.{best_try};
 
-use drifters_entry::entry::{FILTER_LENGTH, copy_run, update_direction};
-use drifters_eqf::filter::{Answer, BLANK_REFUSAL, LENGTH_REFUSAL};
-use drifters_matrix::math::matrix::all_finite;
+use drifters_entry::entry::{FILTER_LENGTH, filter_call};
+use drifters_eqf::answer::Refusal;
+use drifters_kind::kind::Kind;
+use drifters_matrix::math::runs::all_finite;
 
 // How many numbers a reading has: a measured vector.
 pub const READING_LENGTH: usize = 3;
@@ -21,21 +22,18 @@ pub const MOST_READINGS: usize = 8;
 // How many numbers a direction call has.
 const DIRECTION_LENGTH: usize = READING_LENGTH + NORTH_NOISE_LENGTH;
 
-// What an update by several compasses answers: the index of the reading that was applied, its normalised innovation squared, and how many were
-// tried; how many were tried where none was accepted; or the number of a refusal.
+// The reading that is applied: its index and its normalised innovation squared.
 #[derive(Clone, Copy)]
-pub enum CompassesAnswer {
-    Chosen(usize, f64, usize),
-    None(usize),
-    Refused(u32),
+pub struct Best {
+    pub index: usize,
+    pub nis: f64,
 }
 
-// The best of the readings tried so far: its index and its normalised innovation squared. The filter that it leaves stands beside it, since an
-// enum of the language holds no array.
+// How many readings were tried, and the best of them; none where none was accepted.
 #[derive(Clone, Copy)]
-pub enum Best {
-    None,
-    Reading(usize, f64),
+pub struct Tried {
+    pub tried: usize,
+    pub best: Option<Best>,
 }
 
 // The update by the best of the first readings, as many as `budget` allows: readings 3 numbers each, then north 3 and noise 9. Whether a reading is
@@ -45,118 +43,110 @@ pub fn update_compasses(
     readings: &[f64],
     north_noise: &[f64],
     budget: usize,
-) -> CompassesAnswer
-    ensures { compasses_outcome result run.new ≡ update_compasses run.old readings.now north_noise.now budget }
+) -> Result<Tried, Refusal>
+    ensures { compasses_outcome (compasses_answer_of result) run.new ≡ update_compasses run.old readings.now north_noise.now budget }
 {
-    if !compasses_fit(run.len(), readings.len(), north_noise.len(), budget) {
-        return CompassesAnswer::Refused(LENGTH_REFUSAL);
+    let Some(run) = run.as_mut_array::<FILTER_LENGTH>() else {
+        return Err(Refusal::Length);
+    };
+    let Some(north_noise) = north_noise.as_array::<NORTH_NOISE_LENGTH>() else {
+        return Err(Refusal::Length);
+    };
+    if !readings_fit(readings.len(), budget) {
+        return Err(Refusal::Length);
     }
     if !(all_finite(run) & all_finite(north_noise)) {
-        return CompassesAnswer::Refused(BLANK_REFUSAL);
+        return Err(Refusal::Blank);
     }
-    let k = tried(budget, readings.len() / READING_LENGTH);
+    let tried = budget.min(readings.len() / READING_LENGTH);
     let mut left = [0.0; FILTER_LENGTH];
-    match best_of(k, run, readings, north_noise, &mut left) {
-        Best::None => CompassesAnswer::None(k),
-        Best::Reading(i, r) => {
-            copy_run(&left, run);
-            CompassesAnswer::Chosen(i, r, k)
+    match best_of(tried, run, readings, north_noise, &mut left) {
+        None => Ok(Tried { tried, best: None }),
+        Some(best) => {
+            *run = left;
+            let best = Some(best);
+            Ok(Tried { tried, best })
         }
     }
 }
 
-// The filter's run, the readings, north with noise and the budget are of stated lengths and in range.
-fn compasses_fit(run: usize, readings: usize, north_noise: usize, budget: usize) -> bool
-    ensures { result ≡ compasses_fit run readings north_noise budget }
+// So many numbers are from one reading to the most of them, and the budget is in range.
+fn readings_fit(readings: usize, budget: usize) -> bool
+    ensures { result ≡ compasses_fit filter_length readings north_noise_length budget }
 {
     let count = readings / READING_LENGTH;
-    (run == FILTER_LENGTH)
-        & (readings % READING_LENGTH == 0)
+    (readings % READING_LENGTH == 0)
         & (1 <= count)
         & (count <= MOST_READINGS)
-        & (north_noise == NORTH_NOISE_LENGTH)
         & (budget <= MOST_READINGS)
 }
 
-// How many readings are tried: the smaller of the budget and their count.
-fn tried(budget: usize, count: usize) -> usize
-    ensures { result ≡ tried budget count }
-{
-    if budget < count { budget } else { count }
-}
-
-// The best of the first k readings; the filter that it leaves, into `left`.
-fn best_of(k: usize, run: &[f64], readings: &[f64], north_noise: &[f64], left: &mut [f64]) -> Best
-    requires { (length run.now ≡ filter_length) × (k * reading_length ≤ length readings.now) × (length north_noise.now ≡ north_noise_length) × (length left.old ≡ filter_length) }
+// The best of the first k readings; the filter that it leaves, into `left`. The readings and north with noise stay two parameters:
+// C lends them as two runs, and a struct of two loans would put its loan into each contract.
+fn best_of(
+    k: usize,
+    run: &[f64; FILTER_LENGTH],
+    readings: &[f64],
+    north_noise: &[f64; NORTH_NOISE_LENGTH],
+    left: &mut [f64; FILTER_LENGTH],
+) -> Option<Best>
+    requires { k * reading_length ≤ length readings.now }
     ensures { best_try result left.new ≡ best_of (attempt run.now readings.now north_noise.now) k }
 {
-    let mut best = Best::None;
+    let mut best = None;
     for i in 0..k {
         best = try_reading(best, i, run, readings, north_noise, left);
     }
     best
 }
 
-// The best of those so far and reading i, which is tried on a copy of the filter.
+// The best of those so far and reading i, which is tried on a copy of the filter; a refused one is passed over.
 fn try_reading(
-    best: Best,
+    best: Option<Best>,
     i: usize,
-    run: &[f64],
+    run: &[f64; FILTER_LENGTH],
     readings: &[f64],
-    north_noise: &[f64],
-    left: &mut [f64],
-) -> Best
-    requires { (length run.now ≡ filter_length) × (i * reading_length + reading_length ≤ length readings.now) × (length north_noise.now ≡ north_noise_length) × (length left.old ≡ filter_length) }
+    north_noise: &[f64; NORTH_NOISE_LENGTH],
+    left: &mut [f64; FILTER_LENGTH],
+) -> Option<Best>
+    requires { i * reading_length + reading_length ≤ length readings.now }
     ensures { best_try result left.new ≡ better (best_try best left.old) i (attempt run.now readings.now north_noise.now i) }
 {
-    let mut trial = [0.0; FILTER_LENGTH];
-    copy_run(run, &mut trial);
+    let mut trial = *run;
     let numbers = direction_numbers(readings, i, north_noise);
-    match update_direction(&mut trial, &numbers) {
-        Answer::Nis(r) => {
-            if !takes_place(r, best) {
-                return best;
-            }
-            copy_run(&trial, left);
-            Best::Reading(i, r)
-        }
-        Answer::Fine => best,
-        Answer::Refused(_) => best,
+    let Ok(Some(nis)) = filter_call(Kind::Direction, &mut trial, &numbers) else {
+        return best;
+    };
+    if !takes_place(nis, best) {
+        return best;
     }
+    *left = trial;
+    Some(Best { index: i, nis })
 }
 
-// Whether a reading with the normalised innovation squared r takes the place of the best so far: only where it is smaller, so that the earliest of
+// Whether a reading with this normalised innovation squared takes the place of the best so far: only where it is smaller, so that the earliest of
 // equals stays.
-fn takes_place(r: f64, best: Best) -> bool
-    ensures { result ≡ takes_place r (best_try best []) }
+fn takes_place(nis: f64, best: Option<Best>) -> bool
+    ensures { result ≡ takes_place nis (best_try best []) }
 {
     match best {
-        Best::None => true,
-        Best::Reading(_, least) => r < least,
+        None => true,
+        Some(least) => nis < least.nis,
     }
 }
 
 // The numbers of a direction call by reading i: what it measured, then north and noise.
-fn direction_numbers(readings: &[f64], i: usize, north_noise: &[f64]) -> [f64; DIRECTION_LENGTH]
-    requires { (i * reading_length + reading_length ≤ length readings.now) × (length north_noise.now ≡ north_noise_length) }
+fn direction_numbers(
+    readings: &[f64],
+    i: usize,
+    north_noise: &[f64; NORTH_NOISE_LENGTH],
+) -> [f64; DIRECTION_LENGTH]
+    requires { i * reading_length + reading_length ≤ length readings.now }
     ensures { result ≡ direction_numbers readings.now north_noise.now i }
 {
     let at = i * READING_LENGTH;
-    [
-        readings[at],
-        readings[at + 1],
-        readings[at + 2],
-        north_noise[0],
-        north_noise[1],
-        north_noise[2],
-        north_noise[3],
-        north_noise[4],
-        north_noise[5],
-        north_noise[6],
-        north_noise[7],
-        north_noise[8],
-        north_noise[9],
-        north_noise[10],
-        north_noise[11],
-    ]
+    let mut numbers = [0.0; DIRECTION_LENGTH];
+    numbers[..READING_LENGTH].copy_from_slice(&readings[at..at + READING_LENGTH]);
+    numbers[READING_LENGTH..].copy_from_slice(north_noise);
+    numbers
 }

@@ -1,14 +1,12 @@
 -- Port of math/vec3.rs: three-element column vectors. Definitions only.
-use Rattle.std.specs.Prelude.{ℕ, Bool, ◌&&◌, cond, List, [], ◌∷◌, get_or, Float}
+use Rattle.std.specs.Prelude.{ℕ, Bool, ◌&&◌, cond, List, [], ◌∷◌, get_or, Float, Option, Some, None}
 use Rattle.std.specs.Float.{nan}
 use Rattle.std.specs.Float.Ieee.{neg, lt}
 use Rattle.drifters_real.specs.Scalar.{◌⊕◌, ◌⊖◌, ◌⊗◌, ◌⊘◌, plus_zero}
 use Rattle.drifters_real.specs.Real.{sqrt, abs, is_finite}
 use Rattle.drifters_matrix.specs.Matrix.{at, larger}
 use Rattle.drifters_core.specs.declared.math.vec3.Vec3.{Vec3}
-use Rattle.drifters_core.specs.declared.math.vec3.Normalized.{Normalized}
-use Rattle.drifters_core.specs.declared.math.vec3.Normalized.TheVariants.{Unit, None}
-use Rattle.drifters_matrix.specs.declared.math.shapes.Mat3.{Mat3}
+use Rattle.drifters_matrix.specs.Shapes.{Mat3}
 
 -- the vector of three components
 abbrev pub vec3 : Float → Float → Float → Vec3
@@ -51,8 +49,8 @@ unfoldable pub div_vec3 : Vec3 → Float → Vec3
 div_vec3 v s = vec3 (v.x ⊘ s) (v.y ⊘ s) (v.z ⊘ s)
 
 -- the vector over its norm; none where the norm is not above 0, be it 0 or not a number
-unfoldable pub normalized : Vec3 → Normalized
-normalized v = cond (lt plus_zero (norm v)) (Unit (div_vec3 v (norm v))) None
+unfoldable pub normalized : Vec3 → Option Vec3
+normalized v = cond (lt plus_zero (norm v)) (Some (div_vec3 v (norm v))) None
 
 -- the products of the components
 unfoldable pub component_mul : Vec3 → Vec3 → Vec3

@@ -17,8 +17,8 @@ use Rattle.drifters_covariance.specs.declared.covariance.ProcessNoise.{ProcessNo
 -- the transition matrix I + A dt + ½ (A dt)²
 unfoldable pub transition : List Float → Float → List Float
 transition a dt =
-    let aDt = scaled 441 a dt in
-    add_matrix 441 (add_matrix 441 (identity 21) aDt) (scaled 441 (matmul 21 21 21 aDt aDt) half)
+    let a_dt = scaled 441 a dt in
+    add_matrix 441 (add_matrix 441 (identity 21) a_dt) (scaled 441 (matmul 21 21 21 a_dt a_dt) half)
 
 -- six numbers from place i on, as an input
 abbrev pub input_at : List Float → ℕ → Input

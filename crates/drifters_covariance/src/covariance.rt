@@ -9,11 +9,7 @@ ghost use Rattle.drifters_covariance.specs.Covariance.{transition, input_at, inp
 
 use drifters_core::math::vec3::Vec3;
 use drifters_lie::lie::Se3Tangent;
-use drifters_matrix::math::in_place::{
-    add_scaled21, add21, matmul21, mul_transpose21, scale21, set_column6, set_column21x6, sub21,
-    transpose21,
-};
-use drifters_matrix::math::shapes::{Mat6, Mat21, Mat21x6, Mat21x18, Vector21};
+use drifters_matrix::math::matrix::{Mat6, Mat21, Mat21x6, Mat21x18, Vector21};
 use drifters_symmetry::group::{ATTITUDE, Algebra, GYRO_BIAS, LEVER, MAG, State, Symmetry};
 use drifters_symmetry::lift::{Input, lift};
 
@@ -39,23 +35,23 @@ pub struct ProcessNoise {
 pub fn transition(a: Mat21, dt: f64) -> Mat21
     ensures { result.data ≡ transition a.data dt }
 {
-    let mut a_dt = a.data;
-    scale21(&mut a_dt, dt);
-    let mut square = [0.0; 441];
-    matmul21(&a_dt, &a_dt, &mut square);
-    let one = Mat21::identity();
-    let mut phi = one.data;
-    add21(&mut phi, &a_dt);
-    add_scaled21(&mut phi, &square, 0.5);
-    Mat21 { data: phi }
+    let mut a_dt = a;
+    a_dt.scale(dt);
+    let square: Mat21 = a_dt.matmul(&a_dt);
+    let mut phi = Mat21::identity();
+    phi.add_in(&a_dt);
+    phi.add_scaled(&square, 0.5);
+    phi
 }
 
-// The process noise in normal coordinates: x is the new state of the observer, the estimate the old one.
+// The process noise in normal coordinates: x is the new state of the observer, the estimate the old one. With gravity they are the original's three
+// parameters; a struct of them would be made here to be taken apart below.
 pub fn process_noise(x: Symmetry, estimate: State, gravity: Vec3, q: ProcessNoise) -> Mat21
     ensures { result.data ≡ process_noise x estimate gravity q }
 {
     let g = noise_map(x, estimate, gravity);
-    g.mul_diagonal(psd(q)).mul_transpose(g)
+    let weighted = g.mul_diagonal::<324>(psd(q));
+    weighted.mul_transpose(&g)
 }
 
 // The columns of the noise map are the densities in the order of `psd`, three to each: the first column of each.
@@ -76,11 +72,12 @@ const MAG_COLUMN: usize = LEVER_COLUMN + 3;
 fn noise_map(x: Symmetry, estimate: State, gravity: Vec3) -> Mat21x18
     ensures { result.data ≡ noise_map x estimate gravity }
 {
-    let g = Mat21x18::zeros();
-    let g = g.set_block21x6(ATTITUDE, GYRO_COLUMN, input_columns(x, estimate, gravity));
-    let g = g.set_block6(GYRO_BIAS, GYRO_BIAS_COLUMN, bias_columns(x).neg());
-    let g = g.set_block(LEVER, LEVER_COLUMN, x.a().neg());
-    g.set_block(MAG, MAG_COLUMN, x.e)
+    let mut g = Mat21x18::zeros();
+    g.set_block(ATTITUDE, GYRO_COLUMN, &input_columns(x, estimate, gravity));
+    g.set_block(GYRO_BIAS, GYRO_BIAS_COLUMN, &bias_columns(x).neg());
+    g.set_block(LEVER, LEVER_COLUMN, &x.a().neg());
+    g.set_block(MAG, MAG_COLUMN, &x.e);
+    g
 }
 
 // The columns of the input noise.
@@ -89,11 +86,11 @@ fn input_columns(x: Symmetry, estimate: State, gravity: Vec3) -> Mat21x6
 {
     let zero = [0.0; 6];
     let quiet = lift(estimate, input_of(zero), gravity).to_array();
-    let mut data = [0.0; 126];
+    let mut m = Mat21x6::zeros();
     for k in 0..6 {
-        set_column21x6(&mut data, k, input_column(x, estimate, gravity, quiet, k));
+        m.set_column(k, input_column(x, estimate, gravity, quiet, k));
     }
-    Mat21x6 { data }
+    m
 }
 
 // Column k of the input noise: the lift at unit input k less the quiet one, transformed by the adjoint of x.
@@ -129,11 +126,11 @@ fn input_of(v: [f64; 6]) -> Input
 fn bias_columns(x: Symmetry) -> Mat6
     ensures { result.data ≡ matrix 6 6 (λ i k. get_or (bias_column x k) i nan) }
 {
-    let mut data = [0.0; 36];
+    let mut m = Mat6::zeros();
     for k in 0..6 {
-        set_column6(&mut data, k, bias_column(x, k));
+        m.set_column(k, bias_column(x, k));
     }
-    Mat6 { data }
+    m
 }
 
 // Column k of the bias noise: the adjoint of B at unit k.
@@ -180,38 +177,36 @@ fn psd(q: ProcessNoise) -> [f64; 18]
 
 // The Joseph form (I - kc) Σ (I - kc)ᵀ + noise, for kc the gain times the output matrix and noise the gain's share of the measurement
 // noise. It takes these products, which are 21 by 21 at any number of measured values, and not the gain.
-pub fn joseph(sigma: &[f64; 441], kc: &[f64; 441], noise: &[f64; 441]) -> Mat21
-    ensures { result.data ≡ joseph sigma.now kc.now noise.now }
+pub fn joseph(sigma: &Mat21, kc: &Mat21, noise: &Mat21) -> Mat21
+    ensures { result.data ≡ joseph sigma.now.data kc.now.data noise.now.data }
 {
-    let one = Mat21::identity();
-    let mut ikc = one.data;
-    sub21(&mut ikc, kc);
-    let mut out = [0.0; 441];
+    let mut ikc = Mat21::identity();
+    ikc.sub_in(kc);
+    let mut out = Mat21::zeros();
     congruence(&ikc, sigma, &mut out);
-    add21(&mut out, noise);
-    Mat21 { data: out }
+    out.add_in(noise);
+    out
 }
 
 // The covariance after the reset I + ½ ad, into `out`. Once the correction is applied the error is measured from the new estimate; this moves
 // the covariance into its coordinates, to first order.
-pub fn reset(step: Algebra, sigma: &[f64; 441], out: &mut [f64; 441])
-    ensures { out.new ≡ reset_sigma step sigma.now }
+pub fn reset(step: Algebra, sigma: &Mat21, out: &mut Mat21)
+    ensures { out.new.data ≡ reset_sigma step sigma.now.data }
 {
-    let one = Mat21::identity();
-    let mut m = one.data;
+    let mut m = Mat21::identity();
     let ad = step.ad();
-    add_scaled21(&mut m, &ad.data, 0.5);
+    m.add_scaled(&ad, 0.5);
     congruence(&m, sigma, out);
 }
 
 // The covariance transformed by `m`, m Σ mᵀ, into `out`. The matrices are lent, so that none is copied. The second product is made as the
 // transpose of m (m Σ)ᵀ, which has the same bits, so that the zeros of m, which has many, are skipped in both.
-pub fn congruence(m: &[f64; 441], sigma: &[f64; 441], out: &mut [f64; 441])
-    ensures { out.new ≡ mul_transpose 21 21 21 (matmul 21 21 21 m.now sigma.now) m.now }
+pub fn congruence(m: &Mat21, sigma: &Mat21, out: &mut Mat21)
+    ensures { out.new.data ≡ mul_transpose 21 21 21 (matmul 21 21 21 m.now.data sigma.now.data) m.now.data }
 {
-    let mut product = [0.0; 441];
-    matmul21(m, sigma, &mut product);
-    let mut transposed = [0.0; 441];
-    mul_transpose21(m, &product, &mut transposed);
-    transpose21(&transposed, out);
+    let mut product = Mat21::zeros();
+    m.matmul_into(sigma, &mut product);
+    let mut transposed = Mat21::zeros();
+    m.mul_transpose_into(&product, &mut transposed);
+    transposed.transpose_into(out);
 }

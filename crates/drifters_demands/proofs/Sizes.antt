@@ -10,13 +10,12 @@ use Rattle.drifters_matrix.proofs.Matrix.Grid.{length_matrix}
 use Rattle.drifters_lie.specs.Lie.{compose_se23}
 use Rattle.drifters_symmetry.specs.Group.{compose, act_state}
 use Rattle.drifters_cholesky.specs.Cholesky.{definite}
-use Rattle.drifters_eqf.specs.Filter.{turn_fits, nav_state, half_step, full_step, propagated_sigma, propagated, propagate, raw_factor, inflated_factor, Correction, step, corrected, applied, update}
+use Rattle.drifters_eqf.specs.Filter.{Answered, turn_fits, nav_state, half_step, full_step, propagated_sigma, propagated, propagate, raw_factor, inflated_factor, Correction, step, corrected, applied, update}
 use Rattle.drifters_entry.specs.Layout.{SizedFilter, SizedState}
 use Rattle.drifters_symmetry.specs.declared.group.Symmetry.{Symmetry}
 use Rattle.drifters_symmetry.specs.declared.lift.Input.{Input}
 use Rattle.drifters_covariance.specs.declared.covariance.ProcessNoise.{ProcessNoise}
 use Rattle.drifters_eqf.specs.declared.filter.EqFilter.{EqFilter}
-use Rattle.drifters_eqf.specs.declared.filter.Answered.{Answered}
 
 length_matmul : (r c d : ℕ) (a b : List Float) → length (matmul r c d a b) ≡ r * d
 unfolding matmul

@@ -1,11 +1,9 @@
 -- The three demands, each a named statement. The proofs are in proofs/Demands/. Definitions and statements only.
--- They are about the definitions `call`, `start` and `read_into`, and of the code the contracts say it: the outcome of an entry of drifters_entry is
--- `call` at Propagate, Position, Velocity, Direction, General, State and Scalar (propagate, update_position, update_velocity, update_direction,
--- update, nav_state, update_scalar), and `start` (start); `read_sheet` and `run_sheet` of call_sheet leave what `read_into` and `sheet_text` say;
--- square root, sine and cosine are those of drifters_real.
-use Rattle.std.specs.Prelude.{ℕ, ◌+◌, ◌*◌, ◌<◌, ◌≡◌, ◌↔◌, Bool, true, false, not, ◌&&◌, ◌||◌, cond, eqb, length, get_or, Float}
+-- They are about the definitions `call`, `start` and `read_into`, and of the code the contracts say it: the outcome of `filter_call` of drifters_entry
+-- is `call` at its kind, that of `nav_state` is `call` at State, that of `start` is `start`; `read_sheet` and `run_sheet` of call_sheet leave what
+-- `read_into` and `sheet_text` say; square root, sine and cosine are those of drifters_real.
+use Rattle.std.specs.Prelude.{ℕ, ◌+◌, ◌*◌, ◌<◌, ◌≡◌, ◌↔◌, Bool, true, false, not, ◌&&◌, ◌||◌, cond, eqb, length, get_or, Float, Some, Err}
 use mathlib.Core.List.{List, [], ◌∷◌, map, Forall₂}
-use Rattle.std.proofs.Math.Option.{some}
 use Rattle.std.specs.Float.{nan}
 use Rattle.std.specs.Float.Ieee.{eq, is_nan}
 use Rattle.drifters_real.specs.Scalar.{plus_zero}
@@ -14,13 +12,11 @@ use Rattle.drifters_matrix.specs.Matrix.{all_finite}
 use Rattle.drifters_core.specs.Vec3.{norm}
 use Rattle.drifters_core.specs.declared.math.vec3.Vec3.{Vec3}
 use Rattle.drifters_lie.specs.Lie.{vec3_at}
-use Rattle.drifters_eqf.specs.Answer.{length_refusal, blank_refusal, turn_refusal, pivot_refusal, range_refusal, sheet_refusal, null_refusal, number_of, values_of}
+use Rattle.drifters_eqf.specs.Answer.{Answer, Nis, Fine, Refused, length_refusal, blank_refusal, turn_refusal, pivot_refusal, range_refusal, sheet_refusal, null_refusal, number_of, values_of}
 use Rattle.drifters_cholesky.specs.Cholesky.{definite, entries_of}
 use Rattle.drifters_gcu.specs.Gcu.{nis}
 use Rattle.drifters_eqf.specs.Filter.{turn_fits, nav_state, half_step, full_step, propagated, raw_factor, inflated_factor, gain, correction, step, corrected}
 use Rattle.drifters_eqf.specs.declared.filter.EqFilter.{EqFilter}
-use Rattle.drifters_eqf.specs.declared.filter.Answer.{Answer}
-use Rattle.drifters_eqf.specs.declared.filter.Answer.TheVariants.{Nis, Fine, Refused}
 use Rattle.drifters_entry.specs.Layout.{filter_length, start_length, sigma_place, from_run, to_run, state_to_run}
 use Rattle.drifters_kind.specs.Kind.{form_of, written_length}
 use Rattle.drifters_entry.specs.Entry.{Request, refusal, propagation, measurement, estimate, request_of, Outcome, refused, lengths_fit, call, started, start}
@@ -29,7 +25,7 @@ use Rattle.drifters_kind.specs.declared.kind.Kind.{Kind}
 use Rattle.drifters_kind.specs.declared.kind.Kind.TheVariants.{Propagate, Position, Velocity, Direction, General, State, Scalar}
 use Rattle.call_sheet.specs.Sheet.{Sheet, Runs, read_sheet, is_some, refusal_of, runs_fit, in_runs, read_into}
 use Rattle.call_sheet.specs.Text.{refused_line, numbers_of, call_of, lines_text, sheet_text}
-use Rattle.call_sheet.specs.declared.sheet.Filled.TheVariants as filled
+use Rattle.drifters_eqf.specs.declared.answer.Refusal.{Refusal}
 use Rattle.drifters_demands.specs.Like.{Signs}
 use Rattle.drifters_demands.specs.Turn.{filter_signs, turned, turn_call, turn_log}
 
@@ -113,15 +109,15 @@ pub record Checked (checks : List Check) (run written : List Float) (o : Outcome
   pub finite : first_of checks ≡ 0 → (all_finite (values_of o.answer o.written) ≡ true) × (all_finite o.run ≡ true)
 
 -- the checks of a file's bytes that are read into lent runs
-abbrev pub sheet_checks : List ℕ → List ℕ → List ℕ → List ℕ → List Check
+abbrev pub sheet_checks : List ℕ → List ℕ → List Kind → List ℕ → List Check
 sheet_checks s filter kinds numbers = unless length_refusal (runs_fit filter kinds numbers) ∷ unless sheet_refusal (is_some (read_sheet s)) ∷ []
 
 -- What came of reading a file's bytes: the number of the first check that refuses, 0 where none does; where it is refused every lent run as it was;
 -- else the sheet, taken into the runs. Of a broken sheet only `refused 6` is printed.
-pub record CheckedSheet (s filter kinds numbers : List ℕ) (o : Runs) : Type 0 where
+pub record CheckedSheet (s filter : List ℕ) (kinds : List Kind) (numbers : List ℕ) (o : Runs) : Type 0 where
   pub number : refusal_of o.answer ≡ first_of (sheet_checks s filter kinds numbers)
-  pub refusal : (n : ℕ) → o.answer ≡ filled.Refused n → (o.filter ≡ filter) × (o.kinds ≡ kinds) × (o.numbers ≡ numbers)
-  pub taken : first_of (sheet_checks s filter kinds numbers) ≡ 0 → (sheet : Sheet) × (read_sheet s ≡ some sheet) × (o ≡ in_runs (some sheet) filter kinds numbers)
+  pub refusal : (r : Refusal) → o.answer ≡ Err r → (o.filter ≡ filter) × (o.kinds ≡ kinds) × (o.numbers ≡ numbers)
+  pub taken : first_of (sheet_checks s filter kinds numbers) ≡ 0 → (sheet : Sheet) × (read_sheet s ≡ Some sheet) × (o ≡ in_runs (Some sheet) filter kinds numbers)
   pub broken : is_some (read_sheet s) ≡ false → sheet_text s ≡ refused_line sheet_refusal
 
 -- a call passes the checks of length and blank, and is a direction call whose measured vector or north has norm 0
@@ -136,7 +132,7 @@ pub record Demand1 : Type 0 where
   pub calls : (kind : Kind) (run v written : List Float) → Checked (checks kind run v written) run written (call kind run v written)
   pub null : (kind : Kind) (run v written : List Float) → (call kind run v written).answer ≡ Refused null_refusal ↔ NullCall kind run v written
   pub starts : (run v : List Float) → Checked (start_checks run v) run [] (start run v)
-  pub sheets : (s filter kinds numbers : List ℕ) → CheckedSheet s filter kinds numbers (read_into s filter kinds numbers)
+  pub sheets : (s filter : List ℕ) (kinds : List Kind) (numbers : List ℕ) → CheckedSheet s filter kinds numbers (read_into s filter kinds numbers)
   pub mirrored :
       (kind : Kind) (run v written : List Float) → (kind ≡ State → ⊥) → first_of (checks kind run v written) ≡ 0
       → FiniteMirrored (call kind run v written).run
@@ -166,7 +162,7 @@ pub record Demand2 : Type 0 where
       → call kind run v written ≡ accepted_outcome (request_of kind (from_run run) v) (from_run run) run written
   pub starts : (run v : List Float) → first_of (start_checks run v) ≡ 0 → start run v ≡ record { answer = Fine; run = started v; written = [] }
   pub sheets :
-      (s : List ℕ) (sheet : Sheet) → read_sheet s ≡ some sheet
+      (s : List ℕ) (sheet : Sheet) → read_sheet s ≡ Some sheet
       → sheet_text s ≡ lines_text 1 (log_of (numbers_of sheet.filter) (map call_of sheet.calls)).entries
   pub root : SqrtNearest
   pub sine : SineBound

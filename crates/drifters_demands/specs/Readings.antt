@@ -59,16 +59,16 @@ norm_of n = norm (splat (float n))
 unfoldable pub readings : Float → Float → Float → List Reading
 readings u v w =
     let zero = plus_zero in
-    let minusOne = float 0xbff0_0000_0000_0000 in
+    let minus_one = float 0xbff0_0000_0000_0000 in
     let three = float 0x4008_0000_0000_0000 in
     let four = float 0x4010_0000_0000_0000 in
     let nine = float 0x4022_0000_0000_0000 in
     let sixteen = float 0x4030_0000_0000_0000 in
-    let axes = one ∷ minusOne ∷ minusOne ∷ [] in
+    let axes = one ∷ minus_one ∷ minus_one ∷ [] in
     -- beta
     beta_is zero one
     ∷ beta_is one two
-    ∷ beta_is minusOne (inf false)
+    ∷ beta_is minus_one (inf false)
     ∷ beta_is nan two
     -- halvings at 0.0625, 0.125 and 8
     ∷ halvings_are (float 0x3fb0_0000_0000_0000) 0
@@ -86,10 +86,10 @@ readings u v w =
     -- square root of 4, sine and cosine of 0
     ∷ numbers_are (sqrt four ∷ sin zero ∷ cos zero ∷ []) (two ∷ zero ∷ one ∷ [])
     -- beside the starred ones: the signs of the three half turns, and a number past the end of a call, which does not turn
-    ∷ signs_are about_x one minusOne minusOne
-    ∷ signs_are about_y minusOne one minusOne
-    ∷ signs_are about_z minusOne minusOne one
-    ∷ numbers_are (turned_about_x Position (replicate 13 one)) (one ∷ minusOne ∷ minusOne ∷ one ∷ minusOne ∷ minusOne ∷ minusOne ∷ one ∷ one ∷ minusOne ∷ one ∷ one ∷ one ∷ [])
+    ∷ signs_are about_x one minus_one minus_one
+    ∷ signs_are about_y minus_one one minus_one
+    ∷ signs_are about_z minus_one minus_one one
+    ∷ numbers_are (turned_about_x Position (replicate 13 one)) (one ∷ minus_one ∷ minus_one ∷ one ∷ minus_one ∷ minus_one ∷ minus_one ∷ one ∷ one ∷ minus_one ∷ one ∷ one ∷ one ∷ [])
     ∷ numbers_are (turned_about_x State (one ∷ one ∷ [])) (one ∷ one ∷ [])
     -- of a scalar update: its NIS at y = 1 and S = 2, which is not 0.5; its row, which turns by its axes, and its innovation and variance, which do not
     ∷ numbers_are (nis 1 (sqrt two ∷ []) (one ∷ []) ∷ []) (float 0x3fdf_ffff_ffff_ffff ∷ [])

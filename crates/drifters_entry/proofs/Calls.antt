@@ -1,41 +1,47 @@
 -- The laws of a call by its tests: the lengths, the finiteness of what comes in, and that of what is given out. Assumes nothing.
 use Prim.Native.Nat.{ℕ}
 use mathlib.Core.Path.{◌≡◌, refl, sym, ap, ◌∙◌}
-use mathlib.Core.Bool.{Bool, true, false, not, cond, ◌&&◌, and-eq-true_iff, not-not}
+use mathlib.Core.Bool.{Bool, true, false, cond, ◌&&◌, and-eq-true_iff}
 use mathlib.Core.List.{List, [], ◌∷◌}
 use native.Mathlib.Omega.{arith}
 use lib.Dec.{eqb}
 use lib.ListN.{length}
 use lib.Ieee.{Float}
-use borrow.Author.Tests.{eqb-true, eq-eqb}
+use borrow.Author.Tests.{eqb-true, eq-eqb, ne_eqb}
+use Rattle.std.specs.Prelude.{Option, Some, None, Result, Ok, Err}
 use Rattle.drifters_real.specs.Real.{is_finite}
 use Rattle.drifters_matrix.specs.Matrix.{all_finite}
-use Rattle.drifters_eqf.specs.Answer.{length_refusal, blank_refusal, range_refusal}
-use Rattle.drifters_entry.specs.Layout.{filter_length, from_run, to_run}
+use Rattle.drifters_eqf.specs.Answer.{Answer, accepted, length_refusal, blank_refusal, range_refusal, refusal_number}
+use Rattle.drifters_eqf.specs.Filter.{Answered, refuse}
+use Rattle.drifters_eqf.specs.declared.filter.EqFilter.{EqFilter}
+use Rattle.drifters_eqf.specs.declared.answer.Refusal.{Refusal}
+use Rattle.drifters_eqf.specs.declared.answer.Refusal.TheVariants.{Length, Blank}
+use Rattle.drifters_entry.specs.Layout.{filter_length, from_run}
 use Rattle.drifters_kind.specs.Kind.{form_of, call_length, written_length}
-use Rattle.drifters_entry.specs.Entry.{Request, request_of, Outcome, outcome, outcome_of, performed, refused, range_checked_as, range_checked, lengths_fit, call}
+use Rattle.drifters_entry.specs.Entry.{Request, request_of, Outcome, outcome, outcome_of, performed, refused, range_checked, lengths_fit, call}
 use Rattle.drifters_entry.specs.Asked.{first_refusal}
-use Rattle.drifters_eqf.specs.declared.filter.Answer.{Answer}
-use Rattle.drifters_eqf.specs.declared.filter.Answer.TheVariants.{Nis, Fine, Refused}
-use Rattle.drifters_eqf.specs.declared.filter.Answered.{Answered}
 use Rattle.drifters_kind.specs.declared.kind.Kind.{Kind}
 use Rattle.drifters_entry.proofs.Parts.{all_finite_one}
 use Rattle.drifters_entry.proofs.KindLaws.{written_by, kind_laws}
 
 -- ---- what is tested before a call is begun
 
+-- the two tests, with the refusal of each
+abbrev tests : Bool → Bool → Result (Unit {0}) Refusal
+tests s t = cond s (cond t (Ok tt) (Err Blank)) (Err Length)
+
 -- no refusal: both tests hold
-none_refused : (s t : Bool) (r : ℕ) → r ≡ cond s (cond t 0 blank_refusal) length_refusal → r ≡ 0 → (s ≡ true) × (t ≡ true)
-none_refused true true r e z = (refl, refl)
-none_refused true false r e z = absurd (omega arith)
-none_refused false t r e z = absurd (omega arith)
+none_refused : (s t : Bool) {u : Unit {0}} → tests s t ≡ Ok u → (s ≡ true) × (t ≡ true)
+none_refused true true e = (refl, refl)
+none_refused true false e = cc
+none_refused false t e = cc
 
 -- a refusal: the outcome o is not reached
-some_refused : (s t : Bool) (r : ℕ) (run written : List Float) (o : Outcome) → r ≡ cond s (cond t 0 blank_refusal) length_refusal → (r ≡ 0 → ⊥) →
-    refused r run written ≡ cond s (cond t o (refused blank_refusal run written)) (refused length_refusal run written)
-some_refused true true r run written o e h = absurd (h e)
-some_refused true false r run written o e h = ap (λ (n : ℕ). refused n run written) e
-some_refused false t r run written o e h = ap (λ (n : ℕ). refused n run written) e
+some_refused : (s t : Bool) {r : Refusal} (run written : List Float) (o : Outcome) → tests s t ≡ Err r →
+    refused (refusal_number r) run written ≡ cond s (cond t o (refused blank_refusal run written)) (refused length_refusal run written)
+some_refused true true run written o e = cc
+some_refused true false {r} run written o e = let h : r ≡ Blank = cc in ap (λ (x : Refusal). refused (refusal_number x) run written) h
+some_refused false t {r} run written o e = let h : r ≡ Length = cc in ap (λ (x : Refusal). refused (refusal_number x) run written) h
 
 -- the lent runs are as a call of a kind wants them
 pub record Passed (kind : Kind) (run v written : List Float) : Type 0 where
@@ -45,24 +51,30 @@ pub record Passed (kind : Kind) (run v written : List Float) : Type 0 where
   pub run_finite : all_finite run ≡ true
   pub finite : all_finite run && all_finite v ≡ true
 
--- r is what `first_refusal` gives
-module _ (kind : Kind) (run v written : List Float) {r : ℕ} (e : r ≡ first_refusal (form_of kind) run v (length written)) where
-  pub passed : r ≡ 0 → Passed kind run v written
-  passed z =
-      let both = none_refused (lengths_fit (form_of kind) run v (length written)) (all_finite run && all_finite v) r e z in
-      let runs = (and-eq-true_iff _ (eqb (length written) (written_length kind))).0 both.0 in
-      let fits = (and-eq-true_iff _ (eqb (length v) (call_length kind))).0 runs.0 in
-      record {
-        run_length = eqb-true (length run) filter_length fits.0;
-        v_length = eqb-true (length v) (call_length kind) fits.1;
-        written_length_lem = eqb-true (length written) (written_length kind) runs.1;
-        run_finite = ((and-eq-true_iff _ (all_finite v)).0 both.1).0;
-        finite = both.1;
-      }
-
-  pub call_refused : (r ≡ 0 → ⊥) → refused r run written ≡ call kind run v written
+module _ (kind : Kind) (run v written : List Float) where
+  -- the filter's run is of another length
+  pub run_refused : (length run ≡ filter_length → ⊥) → refused length_refusal run written ≡ call kind run v written
   unfolding call
-  call_refused h = some_refused (lengths_fit (form_of kind) run v (length written)) (all_finite run && all_finite v) r run written _ e h
+  run_refused h = rw (ne_eqb _ _ h)
+
+  -- r is what `first_refusal` gives
+  module _ {r : Result (Unit {0}) Refusal} (e : r ≡ first_refusal (form_of kind) run v (length written)) where
+    pub passed : {u : Unit {0}} → r ≡ Ok u → Passed kind run v written
+    passed z =
+        let both = none_refused (lengths_fit (form_of kind) run v (length written)) (all_finite run && all_finite v) (sym e ∙ z) in
+        let runs = (and-eq-true_iff _ (eqb (length written) (written_length kind))).0 both.0 in
+        let fits = (and-eq-true_iff _ (eqb (length v) (call_length kind))).0 runs.0 in
+        record {
+          run_length = eqb-true (length run) filter_length fits.0;
+          v_length = eqb-true (length v) (call_length kind) fits.1;
+          written_length_lem = eqb-true (length written) (written_length kind) runs.1;
+          run_finite = ((and-eq-true_iff _ (all_finite v)).0 both.1).0;
+          finite = both.1;
+        }
+
+    pub call_refused : {x : Refusal} → r ≡ Err x → refused (refusal_number x) run written ≡ call kind run v written
+    unfolding call
+    call_refused z = some_refused (lengths_fit (form_of kind) run v (length written)) (all_finite run && all_finite v) run written _ (sym e ∙ z)
 
 -- ---- a call that is begun
 
@@ -91,24 +103,23 @@ module _ (kind : Kind) (run v : List Float) {written : List Float} (q : Request)
 
 -- ---- what is given out
 
--- the code tests the negation
-not_inj : (s t : Bool) → not s ≡ not t → s ≡ t
-not_inj s t e = sym (not-not s) ∙ ap not e ∙ not-not t
+-- the normalised innovation squared of an update, if there is one, is finite
+abbrev pub nis_finite : Option Float → Bool
+nis_finite (Some x) = is_finite x
+nis_finite None = true
 
-module _ (answered : Answered) (run : List Float) where
-  checked_as : (a : Answer) → answered.answer ≡ a → range_checked_as a (outcome a (to_run answered.filter) []) run [] ≡ range_checked (outcome_of answered []) run []
-  unfolding range_checked
-  checked_as a e = sym (λ i. range_checked_as (e i) (outcome (e i) (to_run answered.filter) []) run [])
+-- what is given out of an answer with the filter beside it, where it is another's
+pub given : (run : List Float) {a b : Answered} → a ≡ b → range_checked (outcome_of a []) run [] ≡ range_checked (outcome_of b []) run []
+given run e = ap (λ (x : Answered). range_checked (outcome_of x []) run []) e
 
-  pub checked_refused : {n : ℕ} → answered.answer ≡ Refused n → refused n run [] ≡ range_checked (outcome_of answered []) run []
-  checked_refused e = checked_as _ e
+-- where it is a refusal
+pub given_refused : (run : List Float) {n : ℕ} {f : EqFilter} {b : Answered} → refuse n f ≡ b → refused n run [] ≡ range_checked (outcome_of b []) run []
+unfolding range_checked
+given_refused run e = given run e
 
-  -- t is what the test found
-  pub checked_fine : (t : Bool) {b : Bool} → answered.answer ≡ Fine → b ≡ all_finite (to_run answered.filter) → not b ≡ not t →
-      cond t (outcome Fine (to_run answered.filter) []) (refused range_refusal run []) ≡ range_checked (outcome_of answered []) run []
-  unfolding all_finite
-  checked_fine t {b} e h k = rw (not_inj t b (sym k), h) (checked_as Fine e)
-
-  pub checked_nis : (t : Bool) {b d : Bool} {x : Float} → answered.answer ≡ Nis x → b ≡ is_finite x → d ≡ all_finite (to_run answered.filter) → not (b && d) ≡ not t →
-      cond t (outcome (Nis x) (to_run answered.filter) []) (refused range_refusal run []) ≡ range_checked (outcome_of answered []) run []
-  checked_nis t {b} {d} {x} e h g k = rw (not_inj t (b && d) (sym k), h, g, ← all_finite_one) (checked_as (Nis x) e)
+-- by the test of what is given out, t, and what it found
+pub checked : (nis : Option Float) (left run : List Float) {t : Bool} → nis_finite nis && all_finite left ≡ t →
+    cond t (outcome (accepted nis) left []) (refused range_refusal run []) ≡ range_checked (outcome (accepted nis) left []) run []
+unfolding range_checked all_finite
+checked (Some x) left run e = rw (all_finite_one, e)
+checked None left run e = rw e

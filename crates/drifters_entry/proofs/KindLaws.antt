@@ -3,7 +3,7 @@ use Prim.Native.Nat.{ℕ}
 use mathlib.Core.Path.{◌≡◌, refl, sym, ap, ◌∙◌}
 use mathlib.Core.Bool.{Bool, true, false, false≢true}
 use mathlib.Core.List.{List}
-use mathlib.Core.Option.{Option, none, some}
+use Rattle.std.specs.Prelude.{Option, Some, None}
 use lib.Ieee.{Float}
 use Rattle.drifters_lie.specs.Lie.{vec3_at}
 use Rattle.drifters_eqf.specs.Filter.{Measurement, measured_direction}
@@ -38,12 +38,12 @@ never e = absurd (false≢true e)
 
 -- what a direction asks, be it measured or not
 direction_writes : (m : Option Measurement) (noise : List Float) (alpha : Float) → 0 ≡ written_by (direction_request m noise alpha)
-direction_writes none noise alpha = refl
-direction_writes (some m) noise alpha = refl
+direction_writes None noise alpha = refl
+direction_writes (Some m) noise alpha = refl
 
 direction_asks : (m : Option Measurement) (noise : List Float) (alpha : Float) → is_estimate (direction_request m noise alpha) ≡ false
-direction_asks none noise alpha = refl
-direction_asks (some m) noise alpha = refl
+direction_asks None noise alpha = refl
+direction_asks (Some m) noise alpha = refl
 
 pub kind_laws : (kind : Kind) → KindLaws kind
 kind_laws Propagate = record { writes = λ f v. refl; asks = λ f v e. never (ap is_estimate e) }

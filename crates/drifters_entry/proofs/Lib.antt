@@ -3,4 +3,3 @@ pub mod RoundTrips
 pub mod Parts
 pub mod Calls
 pub mod KindLaws
-pub mod Asks

@@ -10,7 +10,7 @@ use lib.Seq.{take-add, take_all, take_at, drop_at, drop-drop, drop-cons, get_or-
 use lib.Ieee.{Float, nan}
 use Rattle.drifters_matrix.specs.Matrix.{tab}
 use Rattle.drifters_core.specs.Vec3.{to_array}
-use Rattle.drifters_matrix.specs.declared.math.shapes.Mat3.{Mat3}
+use Rattle.drifters_matrix.specs.Shapes.{Mat3}
 use Rattle.drifters_matrix.proofs.Matrix.Tab.{tab_is}
 use Rattle.drifters_lie.specs.Lie.{mat3_of, to_array_se3, vec3_at, se3_tangent_at}
 use Rattle.drifters_entry.specs.Layout.{velocity_place, position_place, gamma_place, delta_place, e_place, sigma_place, gravity_place, alpha_place, filter_length, part, from_run, to_run, state_from_run, state_to_run, SizedFilter, SizedState, RoundTrips}

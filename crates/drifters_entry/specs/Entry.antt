@@ -1,21 +1,17 @@
 -- The seven kinds of call and the start, on lent runs: their lengths, their answers, and every lent number afterwards. Definitions only.
-use Rattle.std.specs.Prelude.{ℕ, ◌+◌, Bool, ◌&&◌, cond, List, [], eqb, length, get_or, Float}
-use Rattle.std.proofs.Math.Option.{Option, none, some}
+use Rattle.std.specs.Prelude.{ℕ, ◌+◌, Bool, ◌&&◌, cond, List, [], eqb, length, get_or, Float, Option, Some, None}
 use Rattle.std.specs.Float.{nan}
 use Rattle.drifters_matrix.specs.Matrix.{all_finite}
-use Rattle.drifters_eqf.specs.Answer.{length_refusal, blank_refusal, range_refusal, null_refusal, values_of}
+use Rattle.drifters_eqf.specs.Answer.{Answer, Nis, Fine, Refused, length_refusal, blank_refusal, range_refusal, null_refusal, values_of}
 use Rattle.drifters_lie.specs.Lie.{vec3_at}
 use Rattle.drifters_covariance.specs.Covariance.{input_at}
-use Rattle.drifters_eqf.specs.Filter.{new, nav_state, propagate, Measurement, update_by, measured_position, measured_velocity, measured_direction}
+use Rattle.drifters_eqf.specs.Filter.{Answered, new, nav_state, propagate, Measurement, update_by, measured_position, measured_velocity, measured_direction}
 use Rattle.drifters_kind.specs.Kind.{form_of}
 use Rattle.drifters_kind.specs.declared.kind.Form.{Form}
 use Rattle.drifters_entry.specs.Layout.{sigma_place, gravity_place, filter_length, start_length, part, from_run, to_run, state_from_run, state_to_run}
 use Rattle.drifters_symmetry.specs.declared.lift.Input.{Input}
 use Rattle.drifters_covariance.specs.declared.covariance.ProcessNoise.{ProcessNoise}
 use Rattle.drifters_eqf.specs.declared.filter.EqFilter.{EqFilter}
-use Rattle.drifters_eqf.specs.declared.filter.Answer.{Answer}
-use Rattle.drifters_eqf.specs.declared.filter.Answer.TheVariants.{Nis, Fine, Refused}
-use Rattle.drifters_eqf.specs.declared.filter.Answered.{Answered}
 use Rattle.drifters_kind.specs.declared.kind.Kind.{Kind}
 use Rattle.drifters_kind.specs.declared.kind.Kind.TheVariants.{Propagate, Position, Velocity, Direction, General, State, Scalar}
 
@@ -40,8 +36,8 @@ process_noise_at v i = record {
 
 -- the update by what a direction measures; the refusal 'null' where it measures nothing
 abbrev pub direction_request : Option Measurement → List Float → Float → Request
-direction_request none noise alpha = refusal null_refusal
-direction_request (some m) noise alpha = measurement 3 m noise alpha
+direction_request None noise alpha = refusal null_refusal
+direction_request (Some m) noise alpha = measurement 3 m noise alpha
 
 -- what the numbers v of a call ask of the filter f
 abbrev pub request_of : Kind → EqFilter → List Float → Request

@@ -1,8 +1,8 @@
 -- The filter and the state as runs of numbers, both ways, with the round trips. Definitions and statements only.
-use Rattle.std.specs.Prelude.{ℕ, ◌+◌, ◌≡◌, cond, List, [], ◌∷◌, ◌++◌, eqb, length, get_or, take, drop, Float}
+use Rattle.std.specs.Prelude.{ℕ, ◌+◌, ◌≡◌, List, [], ◌∷◌, ◌++◌, length, get_or, take, drop, Float}
 use Rattle.std.specs.Float.{nan}
 use Rattle.drifters_core.specs.Vec3.{to_array}
-use Rattle.drifters_matrix.specs.declared.math.shapes.Mat3.{Mat3}
+use Rattle.drifters_matrix.specs.Shapes.{Mat3}
 use Rattle.drifters_lie.specs.Lie.{mat3_of, to_array_se3, vec3_at, se3_tangent_at}
 use Rattle.drifters_lie.specs.declared.lie.Se23.{Se23}
 use Rattle.drifters_symmetry.specs.declared.group.State.{State}
@@ -64,10 +64,6 @@ start_length = state_length + 441 + 3
 -- n numbers from place i on
 abbrev pub part : List Float → ℕ → ℕ → List Float
 part v i n = take n (drop i v)
-
--- the numbers of a run, copied to another that is as long; one of another length stays
-abbrev pub copied : List Float → List Float → List Float
-copied from to = cond (eqb (length to) (length from)) from to
 
 -- nine numbers from place i on, as a matrix
 abbrev pub mat3_at : List Float → ℕ → Mat3

@@ -1,7 +1,7 @@
 -- Logs of calls: each call with its answer, what it wrote and the filter that it left. Definitions only.
 use Rattle.std.specs.Prelude.{List, [], ◌∷◌, Float}
 use Rattle.drifters_matrix.specs.Matrix.{zeros}
-use Rattle.drifters_eqf.specs.declared.filter.Answer.{Answer}
+use Rattle.drifters_eqf.specs.Answer.{Answer}
 use Rattle.drifters_kind.specs.Kind.{written_length}
 use Rattle.drifters_entry.specs.Entry.{Outcome, call}
 use Rattle.drifters_kind.specs.declared.kind.Kind.{Kind}

@@ -1,17 +1,17 @@
-// The filter and the state as runs of numbers, both ways.
+// The filter and the state as runs of numbers, both ways. They are functions and no `From`: the records are other crates'.
 ghost use Rattle.std.specs.Prelude.{◌≡◌, ◌++◌, ◌+◌, ◌≤◌, length};
 ghost use Rattle.drifters_core.specs.Vec3.{to_array};
 ghost use Rattle.drifters_matrix.specs.Matrix.{all_finite};
 ghost use Rattle.drifters_lie.specs.Lie.{to_array_se3, vec3_at};
-ghost use Rattle.drifters_eqf.specs.Filter.{filter_of};
-ghost use Rattle.drifters_entry.specs.Layout.{filter_length, part, mat3_at, pose_numbers, from_run, to_run, state_from_run, state_to_run};
+ghost use Rattle.drifters_entry.specs.Layout.{part, pose_numbers, from_run, to_run, state_from_run, state_to_run};
 ghost use Rattle.drifters_kind.specs.Kind.{state_length};
 
+use crate::entry::FILTER_LENGTH;
 use drifters_core::math::vec3::Vec3;
 use drifters_eqf::filter::EqFilter;
 use drifters_lie::lie::{Se3Tangent, Se23};
-use drifters_matrix::math::matrix::all_finite;
-use drifters_matrix::math::shapes::{Mat3, Mat21};
+use drifters_matrix::math::matrix::{Mat3, Matrix};
+use drifters_matrix::math::runs::all_finite;
 use drifters_real::math::real::is_finite;
 use drifters_symmetry::group::{State, Symmetry};
 
@@ -33,26 +33,7 @@ pub(crate) const GRAVITY: usize = SIGMA + 441;
 
 pub(crate) const ALPHA: usize = GRAVITY + 3;
 
-// The numbers `m`, into a run that is as long. The loop goes by `m`, whose length the compiler knows where `m` is an array.
-pub(crate) fn store(m: &[f64], out: &mut [f64])
-    requires { length out.old ≡ length m.now }
-    ensures { out.new ≡ m.now }
-{
-    for i in 0..m.len() {
-        out[i] = m[i];
-    }
-}
-
-// The numbers of `run` from `at` on, into `out`.
-pub(crate) fn copy_part(run: &[f64], at: usize, out: &mut [f64])
-    requires { at + length out.old ≤ length run.now }
-    ensures { out.new ≡ part run.now at (length out.old) }
-{
-    let end = at + out.len();
-    store(&run[at..end], out);
-}
-
-// Three numbers from `at` on, as a vector.
+// Three numbers from `at` on, as a vector. group.rt of drifters_symmetry has the same for its 21 numbers: a `requires` on a length stays in a crate.
 pub(crate) fn vec3_at(run: &[f64], at: usize) -> Vec3
     requires { at + 3 ≤ length run.now }
     ensures { result ≡ vec3_at run.now at }
@@ -64,24 +45,17 @@ pub(crate) fn vec3_at(run: &[f64], at: usize) -> Vec3
     }
 }
 
-// Nine numbers from `at` on, as a matrix.
-pub(crate) fn mat3_at(run: &[f64], at: usize) -> Mat3
-    requires { at + 9 ≤ length run.now }
-    ensures { result ≡ mat3_at run.now at }
+// N numbers from `at` on, as a matrix.
+pub(crate) fn matrix_at<const R: usize, const C: usize, const N: usize>(
+    run: &[f64],
+    at: usize,
+) -> Matrix<R, C, N>
+    requires { at + N ≤ length run.now }
+    ensures { result.data ≡ part run.now at N }
 {
-    let mut data = [0.0; 9];
-    copy_part(run, at, &mut data);
-    Mat3 { data }
-}
-
-// 441 numbers from `at` on, as a covariance.
-pub(crate) fn mat21_at(run: &[f64], at: usize) -> Mat21
-    requires { at + 441 ≤ length run.now }
-    ensures { result.data ≡ part run.now at 441 }
-{
-    let mut data = [0.0; 441];
-    copy_part(run, at, &mut data);
-    Mat21 { data }
+    let mut data = [0.0; N];
+    data.copy_from_slice(&run[at..at + N]);
+    Matrix { data }
 }
 
 // The observer's state, from the first 33 numbers.
@@ -91,7 +65,7 @@ pub(crate) fn symmetry_from_run(run: &[f64]) -> Symmetry
 {
     Symmetry {
         c: Se23 {
-            rotation: mat3_at(run, 0),
+            rotation: matrix_at(run, 0),
             velocity: vec3_at(run, VELOCITY),
             position: vec3_at(run, POSITION),
         },
@@ -100,18 +74,17 @@ pub(crate) fn symmetry_from_run(run: &[f64]) -> Symmetry
             nu: vec3_at(run, GAMMA + 3),
         },
         delta: vec3_at(run, DELTA),
-        e: mat3_at(run, E),
+        e: matrix_at(run, E),
     }
 }
 
 // A filter from its run.
-pub(crate) fn from_run(run: &[f64]) -> EqFilter
-    requires { length run.now ≡ filter_length }
+pub(crate) fn from_run(run: &[f64; FILTER_LENGTH]) -> EqFilter
     ensures { result ≡ from_run run.now }
 {
     EqFilter {
         x: symmetry_from_run(run),
-        sigma: mat21_at(run, SIGMA),
+        sigma: matrix_at(run, SIGMA),
         gravity: vec3_at(run, GRAVITY),
         alpha: run[ALPHA],
     }
@@ -135,16 +108,6 @@ pub(crate) fn state_from_run(run: &[f64]) -> State
     }
 }
 
-// The numbers of a vector, into a run of three.
-fn store_vec3(v: Vec3, out: &mut [f64])
-    requires { length out.old ≡ 3 }
-    ensures { out.new ≡ to_array v }
-{
-    out[0] = v.x;
-    out[1] = v.y;
-    out[2] = v.z;
-}
-
 // The 33 numbers that a group element and a state have alike: a pose, six numbers, a vector, a matrix.
 pub(crate) fn state_numbers(c: Se23, w: Se3Tangent, v: Vec3, m: Mat3) -> [f64; 33]
     ensures { result ≡ pose_numbers c ++ to_array_se3 w ++ to_array v ++ m.data }
@@ -162,22 +125,26 @@ pub(crate) fn state_numbers(c: Se23, w: Se3Tangent, v: Vec3, m: Mat3) -> [f64; 3
     ]
 }
 
-// A filter into its run; the places of the covariance are lent on.
-pub(crate) fn to_run(x: Symmetry, sigma: &[f64; 441], gravity: Vec3, alpha: f64, run: &mut [f64])
-    requires { length run.old ≡ filter_length }
-    ensures { run.new ≡ to_run (filter_of x sigma.now gravity alpha) }
+// A filter into its run.
+pub(crate) fn to_run(filter: &EqFilter, run: &mut [f64; FILTER_LENGTH])
+    ensures { run.new ≡ to_run filter.now }
 {
+    let x = filter.x;
     let numbers = state_numbers(x.c, x.gamma, x.delta, x.e);
-    store(&numbers, &mut run[0..SIGMA]);
-    store(sigma, &mut run[SIGMA..GRAVITY]);
-    store_vec3(gravity, &mut run[GRAVITY..ALPHA]);
-    run[ALPHA] = alpha;
+    run[..SIGMA].copy_from_slice(&numbers);
+    run[SIGMA..GRAVITY].copy_from_slice(&filter.sigma.data);
+    run[GRAVITY..ALPHA].copy_from_slice(&filter.gravity.to_array());
+    run[ALPHA] = filter.alpha;
 }
 
 // Every number of a filter is finite.
-pub(crate) fn filter_is_finite(x: Symmetry, sigma: &[f64; 441], gravity: Vec3, alpha: f64) -> bool
-    ensures { result ≡ all_finite (to_run (filter_of x sigma.now gravity alpha)) }
+pub(crate) fn filter_is_finite(filter: &EqFilter) -> bool
+    ensures { result ≡ all_finite (to_run filter.now) }
 {
+    let x = filter.x;
     let numbers = state_numbers(x.c, x.gamma, x.delta, x.e);
-    all_finite(&numbers) & all_finite(sigma) & gravity.is_finite() & is_finite(alpha)
+    all_finite(&numbers)
+        & all_finite(&filter.sigma.data)
+        & filter.gravity.is_finite()
+        & is_finite(filter.alpha)
 }

@@ -1,7 +1,7 @@
 -- The answers: the numbers of refusals (docs/MANUAL.md), and what each case of the answer stands for. Definitions only.
-use Rattle.std.specs.Prelude.{List, [], ◌∷◌, ℕ, Float}
-use Rattle.drifters_eqf.specs.declared.filter.Answer.{Answer}
-use Rattle.drifters_eqf.specs.declared.filter.Answer.TheVariants.{Nis, Fine, Refused}
+use Rattle.std.specs.Prelude.{List, [], ◌∷◌, ℕ, Float, Option, Some, None, Result, Ok, Err}
+use Rattle.drifters_eqf.specs.declared.answer.Refusal.{Refusal}
+use Rattle.drifters_eqf.specs.declared.answer.Refusal.TheVariants.{Length, Blank, Turn, Pivot, Range, Sheet, Null}
 
 -- length: a lent run is not of its stated length
 abbrev pub length_refusal : ℕ
@@ -30,6 +30,32 @@ sheet_refusal = 6
 -- null: a vector that is to be normalised has norm 0
 abbrev pub null_refusal : ℕ
 null_refusal = 7
+
+-- the number of a refusal
+abbrev pub refusal_number : Refusal → ℕ
+refusal_number Length = length_refusal
+refusal_number Blank = blank_refusal
+refusal_number Turn = turn_refusal
+refusal_number Pivot = pivot_refusal
+refusal_number Range = range_refusal
+refusal_number Sheet = sheet_refusal
+refusal_number Null = null_refusal
+
+-- the answer of a call: the normalised innovation squared of an accepted update, that another call is done, or the number of a refusal
+pub data Answer : Type 0 where
+  Nis : Float → Answer
+  Fine : Answer
+  Refused : ℕ → Answer
+
+-- the answer of a call that is accepted, by its normalised innovation squared, if it has one
+abbrev pub accepted : Option Float → Answer
+accepted (Some x) = Nis x
+accepted None = Fine
+
+-- the answer that the code gives
+abbrev pub answer_of : Result (Option Float) Refusal → Answer
+answer_of (Ok nis) = accepted nis
+answer_of (Err r) = Refused (refusal_number r)
 
 -- the number of an answer: that of a refusal, and 0 where the call is accepted
 abbrev pub number_of : Answer → ℕ

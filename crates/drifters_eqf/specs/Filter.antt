@@ -1,6 +1,5 @@
 -- Port of filter.rs: the filter's propagation and updates, with their refusals. Definitions only.
-use Rattle.std.specs.Prelude.{ℕ, ◌*◌, Bool, ◌&&◌, cond, List, Float}
-use Rattle.std.proofs.Math.Option.{Option, none, some}
+use Rattle.std.specs.Prelude.{ℕ, ◌*◌, Bool, ◌&&◌, cond, List, Float, Option, Some, None, Result, Ok, Err}
 use Rattle.std.specs.Float.{binary64}
 use Rattle.std.specs.Float.Ieee.{le, of_bits}
 use Rattle.drifters_real.specs.Scalar.{◌⊗◌, half}
@@ -9,9 +8,8 @@ use Rattle.drifters_matrix.specs.Matrix.{transpose, matmul, mul_transpose, scale
 use Rattle.drifters_cholesky.specs.Cholesky.{Factor, definite, entries_of, cholesky, solve}
 use Rattle.drifters_core.specs.Vec3.{to_array, norm, normalized, skew, sub_vec3, mul_mat3_vec3}
 use Rattle.drifters_core.specs.declared.math.vec3.Vec3.{Vec3}
-use Rattle.drifters_core.specs.declared.math.vec3.Normalized.{Normalized}
-use Rattle.drifters_core.specs.declared.math.vec3.Normalized.TheVariants.{Unit, None}
-use Rattle.drifters_eqf.specs.Answer.{turn_refusal, pivot_refusal}
+use Rattle.drifters_eqf.specs.Answer.{Answer, Nis, Fine, Refused, turn_refusal, pivot_refusal, refusal_number}
+use Rattle.drifters_eqf.specs.declared.answer.Refusal.{Refusal}
 use Rattle.drifters_symmetry.specs.Group.{compose, scaled_algebra, from_array21, exp, default_state, from_state, act_state}
 use Rattle.drifters_symmetry.specs.Lift.{lift}
 use Rattle.drifters_symmetry.specs.Linear.{state_matrix, direction_output_matrix, position_output_matrix, velocity_output_matrix, transported_direction, transported_position, transported_velocity}
@@ -23,10 +21,8 @@ use Rattle.drifters_symmetry.specs.declared.group.State.{State}
 use Rattle.drifters_symmetry.specs.declared.lift.Input.{Input}
 use Rattle.drifters_covariance.specs.declared.covariance.ProcessNoise.{ProcessNoise}
 use Rattle.drifters_eqf.specs.declared.filter.EqFilter.{EqFilter}
-use Rattle.drifters_eqf.specs.declared.filter.Answer.TheVariants.{Nis, Fine, Refused}
-use Rattle.drifters_eqf.specs.declared.filter.Answered.{Answered}
+use Rattle.drifters_eqf.specs.declared.filter.Updated.{Updated}
 use Rattle.drifters_eqf.specs.declared.filter.Measurement3.{Measurement3}
-use Rattle.drifters_eqf.specs.declared.filter.MeasuredDirection.{MeasuredDirection}
 
 -- 8.0: the largest norm of a rotation vector whose exponential is taken
 abbrev pub turn_limit : Float
@@ -36,9 +32,24 @@ turn_limit = of_bits binary64 0x4020_0000_0000_0000
 unfoldable pub turn_fits : Algebra → Bool
 turn_fits u = le (norm u.c.omega) turn_limit && le (norm u.e) turn_limit
 
+-- an answer with the filter beside it
+pub record Answered : Type 0 where
+  pub answer : Answer
+  pub filter : EqFilter
+
 -- a refusal, beside the filter as it was
 abbrev pub refuse : ℕ → EqFilter → Answered
 refuse n f = record { answer = Refused n; filter = f }
+
+-- what a propagation of the filter f gives: the filter after it, or a refusal, and the caller still has f
+abbrev pub answered_propagation : EqFilter → Result EqFilter Refusal → Answered
+answered_propagation f (Ok after) = record { answer = Fine; filter = after }
+answered_propagation f (Err r) = refuse (refusal_number r) f
+
+-- what an update of the filter f gives, in the same way
+abbrev pub answered_update : EqFilter → Result Updated Refusal → Answered
+answered_update f (Ok u) = record { answer = Nis u.nis; filter = u.filter }
+answered_update f (Err r) = refuse (refusal_number r) f
 
 -- a filter of its parts
 abbrev pub filter_of : Symmetry → List Float → Vec3 → Float → EqFilter
@@ -184,16 +195,12 @@ measured_unit x unit origin =
     record { output = direction_output_matrix origin transported; innovation = to_array (mul_mat3_vec3 (skew origin) transported) }
 
 -- what two normalised vectors give: a measurement, or none where one of them is none
-abbrev pub measured_units : Symmetry → Normalized → Normalized → Option Measurement
-measured_units x (Unit unit) (Unit origin) = some (measured_unit x unit origin)
-measured_units x (Unit unit) None = none
-measured_units x None (Unit origin) = none
-measured_units x None None = none
+abbrev pub measured_units : Symmetry → Option Vec3 → Option Vec3 → Option Measurement
+measured_units x (Some unit) (Some origin) = Some (measured_unit x unit origin)
+measured_units x (Some unit) None = None
+measured_units x None (Some origin) = None
+measured_units x None None = None
 
 -- a magnetometer direction, measured of a known north; none where the norm of one of them is not above 0
 unfoldable pub measured_direction : Symmetry → Vec3 → Vec3 → Option Measurement
 measured_direction x measured north = measured_units x (normalized measured) (normalized north)
-
--- the same, as the code has it
-abbrev pub direction_measured : MeasuredDirection → Option Measurement
-direction_measured r = cond r.defined (some (measurement3 r.measurement)) none

@@ -1,18 +1,16 @@
 // Port of filter.rs: the filter, its propagation and its updates, by value. The group acts from the right: a propagation composes on the
 // right, the correction of an update on the left. The lines of the covariance are in drifters_covariance.
-ghost use Rattle.std.specs.Prelude.{[], ◌∷◌, ◌≡◌};
-ghost use Rattle.std.proofs.Math.Option.{none};
-ghost use Rattle.drifters_core.specs.Vec3.{to_array};
-ghost use Rattle.drifters_eqf.specs.Filter.{turn_fits, refuse, new, nav_state, propagate, applied, filter_of, update, measurement3, measured_position, measured_velocity, direction_measured, measured_direction};
+ghost use Rattle.std.specs.Prelude.{◌≡◌, ◌*◌, ◌≤◌, option_map};
+ghost use Rattle.drifters_eqf.specs.Filter.{turn_fits, new, nav_state, answered_propagation, propagate, answered_update, applied, update, measurement3, measured_position, measured_velocity, measured_direction};
 
-use drifters_cholesky::math::cholesky::{Cholesky1, Cholesky3};
-use drifters_core::math::vec3::{Normalized, Vec3, from_vec3, mul_vec3};
+use crate::answer::Refusal;
+use drifters_cholesky::math::cholesky::Cholesky;
+use drifters_core::math::vec3::{Vec3, mul_vec3};
 use drifters_covariance::covariance::{
     ProcessNoise, congruence, joseph, process_noise, reset, transition,
 };
-use drifters_gcu::gcu::{inflate_at1, inflate_at3, nis1, nis3};
-use drifters_matrix::math::in_place::{add_scaled21, matmul1x21, matmul3x21, symmetrize21};
-use drifters_matrix::math::shapes::{Mat1, Mat1x21, Mat3, Mat3x21, Mat21};
+use drifters_gcu::gcu::{inflate_at, nis};
+use drifters_matrix::math::matrix::{Mat3x21, Mat21, Matrix, Vector, Vector21};
 use drifters_real::math::real::abs;
 use drifters_symmetry::group::{Algebra, State, Symmetry, act_state};
 use drifters_symmetry::lift::{Input, lift};
@@ -20,19 +18,6 @@ use drifters_symmetry::linear::{
     direction_output_matrix, position_output_matrix, state_matrix, transported_direction,
     transported_position, transported_velocity, velocity_output_matrix,
 };
-
-// The numbers of the refusals: length, blank, turn, pivot, range and null (docs/MANUAL.md). 6 is a call sheet's.
-pub const LENGTH_REFUSAL: u32 = 1;
-
-pub const BLANK_REFUSAL: u32 = 2;
-
-pub const TURN_REFUSAL: u32 = 3;
-
-pub const PIVOT_REFUSAL: u32 = 4;
-
-pub const RANGE_REFUSAL: u32 = 5;
-
-pub const NULL_REFUSAL: u32 = 7;
 
 // The largest norm of a rotation vector whose exponential is taken.
 const TURN_LIMIT: f64 = 8.0;
@@ -46,18 +31,10 @@ pub struct EqFilter {
     pub alpha: f64,
 }
 
-// What a call answers: the normalised innovation squared of an accepted update, that another call is done, or the number of a refusal.
+// A filter after an update, and the normalised innovation squared of it.
 #[derive(Clone, Copy)]
-pub enum Answer {
-    Nis(f64),
-    Fine,
-    Refused(u32),
-}
-
-// An answer with the filter beside it.
-#[derive(Clone, Copy)]
-pub struct Answered {
-    pub answer: Answer,
+pub struct Updated {
+    pub nis: f64,
     pub filter: EqFilter,
 }
 
@@ -66,14 +43,6 @@ pub struct Answered {
 pub struct Measurement3 {
     pub output: Mat3x21,
     pub innovation: Vec3,
-}
-
-// What an update by a direction measures, where it measures any: a vector of norm 0 has no direction. An enum of the language holds no array, so
-// whether there is a measurement stands beside it; where there is none it is all zeros.
-#[derive(Clone, Copy)]
-pub struct MeasuredDirection {
-    pub defined: bool,
-    pub measurement: Measurement3,
 }
 
 impl EqFilter {
@@ -99,157 +68,91 @@ impl EqFilter {
     // Propagation over dt with one sample of the inertial sensors; dt may be negative. The lift changes over the step, as gravity turns in
     // the body frame, so it is taken again at the state half a step on: that makes the step second order in dt. The process noise is
     // scaled by |dt|: it adds to the covariance also when time runs backwards.
-    pub fn propagate(self, u: Input, dt: f64, q: ProcessNoise) -> Answered
-        ensures { result ≡ propagate self u dt q }
+    pub fn propagate(self, u: Input, dt: f64, q: ProcessNoise) -> Result<EqFilter, Refusal>
+        ensures { answered_propagation self result ≡ propagate self u dt q }
     {
         let gravity = self.gravity;
         let alpha = self.alpha;
         let estimate = act_state(self.x, State::default());
         let start = lift(estimate, u, gravity).scaled(0.5 * dt);
         if !turn_fits(start) {
-            return refuse(TURN_REFUSAL, self);
+            return Err(Refusal::Turn);
         }
         let half = self.x.compose(Symmetry::exp(start));
         let midpoint = act_state(half, State::default());
         let step = lift(midpoint, u, gravity).scaled(dt);
         if !turn_fits(step) {
-            return refuse(TURN_REFUSAL, self);
+            return Err(Refusal::Turn);
         }
         let x = self.x.compose(Symmetry::exp(step));
         let phi = transition(state_matrix(half, u, gravity), dt);
         let noise = process_noise(x, estimate, gravity, q);
-        let mut out = [0.0; 441];
-        congruence(&phi.data, &self.sigma.data, &mut out);
-        add_scaled21(&mut out, &noise.data, abs(dt));
-        symmetrize21(&mut out);
-        let sigma = Mat21 { data: out };
-        Answered {
-            answer: Answer::Fine,
-            filter: EqFilter {
-                x,
-                sigma,
-                gravity,
-                alpha,
-            },
-        }
+        let mut sigma = Mat21::zeros();
+        congruence(&phi, &self.sigma, &mut sigma);
+        sigma.add_scaled(&noise, abs(dt));
+        sigma.symmetrize();
+        Ok(EqFilter {
+            x,
+            sigma,
+            gravity,
+            alpha,
+        })
     }
 
-    // The update by a measurement, as far as the gain; `apply` does the rest. The answer is the normalised innovation squared before
-    // inflation, which hides how unexpected the innovation is. The gain Σ cᵀ S⁻¹ is the transpose of a solve with the Cholesky factor of S,
-    // which is symmetric but for rounding: an inverse would cost more and round more.
-    pub fn update(self, c: Mat3x21, innovation: Vec3, noise: Mat3, alpha: f64) -> Answered
-        ensures { result ≡ update 3 self c.data (to_array innovation) noise.data alpha }
+    // The update by a measurement of W numbers, as far as the gain; `apply` does the rest. The answer is the normalised innovation squared
+    // before inflation, which hides how unexpected the innovation is. The gain Σ cᵀ S⁻¹ is the transpose of a solve with the Cholesky factor of
+    // S, which is symmetric but for rounding: an inverse would cost more and round more, and at W = 1 a quotient by the variance would round
+    // otherwise.
+    pub fn update<const W: usize, const WW: usize, const WS: usize>(
+        self,
+        c: &Matrix<W, 21, WS>,
+        innovation: &Vector<W>,
+        noise: &Matrix<W, W, WW>,
+        alpha: f64,
+    ) -> Result<Updated, Refusal>
+        requires { (WW ≡ W * W) × (WS ≡ W * 21) × (WS ≡ 21 * W) × (W ≤ WW) × (21 ≤ WS) }
+        ensures { answered_update self result ≡ update W self c.now.data innovation.now.data noise.now.data alpha }
     {
-        let y = from_vec3(innovation);
-        let mut product = [0.0; 63];
-        matmul3x21(&c.data, &self.sigma.data, &mut product);
-        let c_sigma = Mat3x21 { data: product };
-        let projected = c_sigma.mul_transpose(c);
-        let raw = Cholesky3::new(projected.add(noise));
-        if !raw.definite {
-            return refuse(PIVOT_REFUSAL, self);
-        }
-        let r = nis3(raw.factor, y);
-        let chol = Cholesky3::new(inflate_at3(r, y, projected, noise, alpha));
-        if !chol.definite {
-            return refuse(PIVOT_REFUSAL, self);
-        }
-        let gain = chol.factor.solve(c_sigma).transpose();
-        let column = gain.matmul_vector(y);
-        let kc = gain.matmul21(c);
-        let share = gain.matmul3(noise).mul_transpose(gain);
-        let delta = column.data;
-        apply(
-            self.x,
-            &self.sigma.data,
-            self.gravity,
-            self.alpha,
-            r,
-            delta,
-            &kc.data,
-            &share.data,
-        )
+        let c_sigma: Matrix<W, 21, WS> = c.matmul(&self.sigma);
+        let projected: Matrix<W, W, WW> = c_sigma.mul_transpose(c);
+        let mut raw = projected;
+        raw.add_in(noise);
+        let Some(raw) = Cholesky::new(&raw) else {
+            return Err(Refusal::Pivot);
+        };
+        let r = nis(&raw, innovation);
+        let Some(chol) = Cholesky::new(&inflate_at(r, innovation, &projected, noise, alpha)) else {
+            return Err(Refusal::Pivot);
+        };
+        let gain = chol.solve(&c_sigma).transpose();
+        let column: Vector21 = gain.matmul(innovation);
+        let kc: Mat21 = gain.matmul(c);
+        let weighted: Matrix<21, W, WS> = gain.matmul(noise);
+        let share: Mat21 = weighted.mul_transpose(&gain);
+        self.apply(r, column.data, &kc, &share)
     }
 
-    // The update by one measured number with its variance: `update` at width one, step for step. What the two widths share is code over the
-    // width; a quotient by the variance of the innovation would round otherwise than the two substitutions.
-    pub fn update_scalar(self, c: Mat1x21, innovation: f64, variance: f64, alpha: f64) -> Answered
-        ensures { result ≡ update 1 self c.data (innovation ∷ []) (variance ∷ []) alpha }
+    // A correction applied to the filter, with r for an answer: composed on the left, then the Joseph form and the reset, since the error is
+    // measured from the new estimate afterwards. No width enters, so that updates of every width share it.
+    fn apply(&self, r: f64, delta: [f64; 21], kc: &Mat21, noise: &Mat21) -> Result<Updated, Refusal>
+        ensures { answered_update self.now result ≡ applied self.now r (record { delta = delta; kc = kc.now.data; noise = noise.now.data }) }
     {
-        let y = Mat1 { data: [innovation] };
-        let noise = Mat1 { data: [variance] };
-        let mut product = [0.0; 21];
-        matmul1x21(&c.data, &self.sigma.data, &mut product);
-        let c_sigma = Mat1x21 { data: product };
-        let projected = c_sigma.mul_transpose(c);
-        let raw = Cholesky1::new(projected.add(noise));
-        if !raw.definite {
-            return refuse(PIVOT_REFUSAL, self);
+        let step = Algebra::from_array(delta);
+        if !turn_fits(step) {
+            return Err(Refusal::Turn);
         }
-        let r = nis1(raw.factor, y);
-        let chol = Cholesky1::new(inflate_at1(r, y, projected, noise, alpha));
-        if !chol.definite {
-            return refuse(PIVOT_REFUSAL, self);
-        }
-        let gain = chol.factor.solve(c_sigma).transpose();
-        let column = gain.matmul1(y);
-        let kc = gain.matmul21(c);
-        let share = gain.matmul1(noise).mul_transpose(gain);
-        let delta = column.data;
-        apply(
-            self.x,
-            &self.sigma.data,
-            self.gravity,
-            self.alpha,
-            r,
-            delta,
-            &kc.data,
-            &share.data,
-        )
-    }
-}
-
-// A correction applied to the parts of a filter, with r for an answer: composed on the left, then the Joseph form and the reset, since the
-// error is measured from the new estimate afterwards. No width enters, so that updates of every width share it; the covariance is lent, since
-// the compiler would copy a whole filter for each caller.
-fn apply(
-    x: Symmetry,
-    sigma: &[f64; 441],
-    gravity: Vec3,
-    alpha: f64,
-    r: f64,
-    delta: [f64; 21],
-    kc: &[f64; 441],
-    noise: &[f64; 441],
-) -> Answered
-    ensures { result ≡ applied (filter_of x sigma.now gravity alpha) r (record { delta = delta; kc = kc.now; noise = noise.now }) }
-{
-    let step = Algebra::from_array(delta);
-    if !turn_fits(step) {
-        let entries = *sigma;
-        return refuse(TURN_REFUSAL, filter_of(x, entries, gravity, alpha));
-    }
-    let change = Symmetry::exp(step);
-    let corrected = joseph(sigma, kc, noise);
-    let mut out = [0.0; 441];
-    reset(step, &corrected.data, &mut out);
-    symmetrize21(&mut out);
-    Answered {
-        answer: Answer::Nis(r),
-        filter: filter_of(change.compose(x), out, gravity, alpha),
-    }
-}
-
-// A filter of its parts.
-fn filter_of(x: Symmetry, entries: [f64; 441], gravity: Vec3, alpha: f64) -> EqFilter
-    ensures { result ≡ filter_of x entries gravity alpha }
-{
-    let sigma = Mat21 { data: entries };
-    EqFilter {
-        x,
-        sigma,
-        gravity,
-        alpha,
+        let change = Symmetry::exp(step);
+        let corrected = joseph(&self.sigma, kc, noise);
+        let mut sigma = Mat21::zeros();
+        reset(step, &corrected, &mut sigma);
+        sigma.symmetrize();
+        let filter = EqFilter {
+            x: change.compose(self.x),
+            sigma,
+            gravity: self.gravity,
+            alpha: self.alpha,
+        };
+        Ok(Updated { nis: r, filter })
     }
 }
 
@@ -277,48 +180,15 @@ pub fn measured_velocity(x: Symmetry, antenna: Vec3, omega: Vec3) -> Measurement
 }
 
 // What an update by a direction of the known north measures; nothing where north or what is measured has no direction.
-pub fn measured_direction(x: Symmetry, measured: Vec3, north: Vec3) -> MeasuredDirection
-    ensures { direction_measured result ≡ measured_direction x measured north }
+pub fn measured_direction(x: Symmetry, measured: Vec3, north: Vec3) -> Option<Measurement3>
+    ensures { option_map measurement3 result ≡ measured_direction x measured north }
 {
-    let Normalized::Unit(origin) = north.normalized() else {
-        return no_direction();
-    };
-    let Normalized::Unit(unit) = measured.normalized() else {
-        return no_direction();
-    };
-    let transported = transported_direction(x, unit);
-    let measurement = Measurement3 {
+    let origin = north.normalized()?;
+    let transported = transported_direction(x, measured.normalized()?);
+    Some(Measurement3 {
         output: direction_output_matrix(origin, transported),
         innovation: mul_vec3(origin.skew(), transported),
-    };
-    MeasuredDirection {
-        defined: true,
-        measurement,
-    }
-}
-
-// No measurement.
-fn no_direction() -> MeasuredDirection
-    ensures { direction_measured result ≡ none }
-{
-    let measurement = Measurement3 {
-        output: Mat3x21::zeros(),
-        innovation: Vec3::ZERO,
-    };
-    MeasuredDirection {
-        defined: false,
-        measurement,
-    }
-}
-
-// A refusal, beside the filter as it was.
-fn refuse(n: u32, filter: EqFilter) -> Answered
-    ensures { result ≡ refuse n filter }
-{
-    Answered {
-        answer: Answer::Refused(n),
-        filter,
-    }
+    })
 }
 
 // The norms of both rotation vectors of u are numbers at most the limit.

@@ -1,4 +1,4 @@
--- The laws of coded answers: an entry's outcome as a code, an update by the lengths of its runs, and runs of one or two numbers. Assumes nothing.
+-- The laws of coded answers: an update by the lengths of its runs, and runs of one or two numbers. Assumes nothing.
 use Prim.Native.Nat.{ℕ}
 use mathlib.Core.Path.{◌≡◌, refl, sym, ap, ◌∙◌}
 use mathlib.Core.Bool.{Bool, true, false, ◌&&◌, and-eq-true_iff}
@@ -9,15 +9,14 @@ use lib.Dec.{eqb}
 use lib.ListN.{length, set}
 use lib.Ieee.{Float}
 use Rattle.drifters_real.specs.Real.{sin, cos}
-use Rattle.drifters_eqf.specs.Answer.{length_refusal, number_of}
+use Rattle.std.specs.Prelude.{Result}
+use Rattle.drifters_eqf.specs.Answer.{length_refusal, Answer, number_of}
+use Rattle.drifters_eqf.specs.declared.answer.Refusal.{Refusal}
 use Rattle.drifters_entry.specs.Entry.{Outcome, outcome, call}
-use Rattle.drifters_eqf.specs.declared.filter.Answer.{Answer}
 use Rattle.drifters_kind.specs.declared.kind.Kind.{Kind}
-use Rattle.drifters_compasses.specs.Compasses.{CompassesOutcome, compasses_outcome, update_compasses, compasses_number}
-use Rattle.drifters_compasses.specs.declared.compasses.CompassesAnswer.{CompassesAnswer}
+use Rattle.drifters_compasses.specs.Compasses.{CompassesAnswer, CompassesOutcome, compasses_outcome, update_compasses, compasses_number}
 use Rattle.call_sheet.specs.Text.{Printed, printed, print_into}
-use Rattle.call_sheet.specs.declared.sheet.Filled.{Filled}
-use Rattle.drifters_eqf_c.specs.Exports.{result_length, sin_cos_length, coded, coded_outcome, nis_after, coded_update, counts_length, coded_compasses, counts_after, chosen_nis_after, coded_update_compasses, coded_sin_cos, coded_text, coded_printed, coded_sheet}
+use Rattle.drifters_eqf_c.specs.Exports.{result_length, sin_cos_length, coded, nis_after, coded_update, counts_length, coded_compasses, counts_after, chosen_nis_after, coded_update_compasses, coded_sin_cos, coded_text, coded_printed, coded_sheet}
 
 -- ---- runs that are written whole
 
@@ -33,10 +32,6 @@ two_written (a ∷ b ∷ []) x y e = refl
 two_written (a ∷ b ∷ c ∷ l) x y e = absurd (omega (arith, e))
 
 -- ---- calls on a filter
-
--- r is the code of the answer a
-pub coded_outcome_lem : {a : Answer} {run written : List Float} {r : ℕ} {o : Outcome} → r ≡ number_of a → outcome a run written ≡ o → coded r run written ≡ coded_outcome o
-coded_outcome_lem {a} {run} {written} e made = (λ i. coded (e i) run written) ∙ ap coded_outcome made
 
 module _ (kind : Kind) (run v nis : List Float) where
   -- an update with a run that is not of one number
@@ -86,11 +81,11 @@ module _ (s text written : List ℕ) where
   sheet_refused differs = rw (ne_eqb _ _ differs)
 
   -- a is what running the sheet answers, and `shape` how it is matched
-  pub sheet_coded : {a shape : Filled} {out : List ℕ} → length written ≡ result_length → printed a out ≡ print_into s text → a ≡ shape →
+  pub sheet_coded : {a shape : Result ℕ Refusal} {out : List ℕ} → length written ≡ result_length → printed a out ≡ print_into s text → a ≡ shape →
       coded_printed shape out written ≡ coded_sheet s text written
   unfolding coded_sheet
   sheet_coded {a} {shape} {out} one made told =
-      rw (eq-eqb _ _ one) (sym (ap (λ (f : Filled). coded_printed f out written) told) ∙ ap (λ (p : Printed). coded_printed p.answer p.text written) made)
+      rw (eq-eqb _ _ one) (sym (ap (λ (f : Result ℕ Refusal). coded_printed f out written) told) ∙ ap (λ (p : Printed). coded_printed p.answer p.text written) made)
 
 -- ---- sine and cosine
 

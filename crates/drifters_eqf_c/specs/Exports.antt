@@ -1,18 +1,13 @@
 -- What a call answers across the C interface: a code, and every lent run afterwards. Definitions only.
-use Rattle.std.specs.Prelude.{ℕ, ◌&&◌, cond, List, [], ◌∷◌, ◌++◌, eqb, length, Float}
+use Rattle.std.specs.Prelude.{ℕ, ◌&&◌, cond, List, [], ◌∷◌, ◌++◌, eqb, length, Float, Result, Ok, Err}
 use Rattle.drifters_real.specs.Real.{sin, cos}
-use Rattle.drifters_eqf.specs.Answer.{length_refusal, number_of}
+use Rattle.drifters_eqf.specs.Answer.{length_refusal, refusal_number, Answer, Nis, Fine, Refused, number_of}
+use Rattle.drifters_eqf.specs.declared.answer.Refusal.{Refusal}
 use Rattle.drifters_entry.specs.Entry.{Outcome, call}
-use Rattle.drifters_eqf.specs.declared.filter.Answer.{Answer}
-use Rattle.drifters_eqf.specs.declared.filter.Answer.TheVariants.{Nis, Fine, Refused}
 use Rattle.drifters_kind.specs.declared.kind.Kind.{Kind}
-use Rattle.drifters_compasses.specs.Compasses.{most_readings, update_compasses, compasses_number, compasses_counts, compasses_values}
-use Rattle.drifters_compasses.specs.declared.compasses.CompassesAnswer.{CompassesAnswer}
-use Rattle.drifters_compasses.specs.declared.compasses.CompassesAnswer.TheVariants as compasses
-use Rattle.drifters_compasses.specs.declared.compasses.CompassesAnswer.TheVariants.{Chosen, None}
+use Rattle.drifters_compasses.specs.Compasses as compasses
+use Rattle.drifters_compasses.specs.Compasses.{most_readings, CompassesAnswer, Chosen, None, update_compasses, compasses_number, compasses_counts, compasses_values}
 use Rattle.call_sheet.specs.Text.{print_into}
-use Rattle.call_sheet.specs.declared.sheet.Filled.{Filled}
-use Rattle.call_sheet.specs.declared.sheet.Filled.TheVariants as filled
 
 -- how many numbers each run has that one result is written to: the normalised innovation squared, or the length of a text
 abbrev pub result_length : ℕ
@@ -103,9 +98,9 @@ abbrev pub coded_text : ℕ → List ℕ → List ℕ → CodedText
 coded_text code text written = record { code = code; text = text; written = written }
 
 -- a printed text with its length in a run, or the code of its refusal
-abbrev pub coded_printed : Filled → List ℕ → List ℕ → CodedText
-coded_printed (filled.Length n) text written = coded_text 0 text (n ∷ [])
-coded_printed (filled.Refused n) text written = coded_text n text written
+abbrev pub coded_printed : Result ℕ Refusal → List ℕ → List ℕ → CodedText
+coded_printed (Ok n) text written = coded_text 0 text (n ∷ [])
+coded_printed (Err r) text written = coded_text (refusal_number r) text written
 
 -- a sheet's bytes run, its text at the front of `text`, and the text's length in a run of one number; a run of another length is refused as length
 unfoldable pub coded_sheet : List ℕ → List ℕ → List ℕ → CodedText

@@ -1,80 +1,80 @@
-// Port of gcu.rs: inflation of the innovation covariance by the normalised innovation squared, over the width.
-ghost use Rattle.std.specs.Prelude.{◌≡◌, length};
+// Port of gcu.rs: inflation of the innovation covariance by the normalised innovation squared, of any width.
+ghost use Rattle.std.specs.Prelude.{◌≡◌, ◌*◌};
 ghost use Rattle.drifters_real.specs.Scalar.{◌⊗◌, plus_zero, one};
 ghost use Rattle.drifters_real.specs.Real.{clamp};
 ghost use Rattle.drifters_matrix.specs.Matrix.{scaled, add_matrix};
 ghost use Rattle.drifters_gcu.specs.Gcu.{dot_vector, beta, nis, inflated_by, inflate};
 
-use drifters_cholesky::math::cholesky::{Cholesky1, Cholesky3};
-use drifters_matrix::math::shapes::{Mat1, Mat3, Vector3};
+use drifters_cholesky::math::cholesky::Cholesky;
+use drifters_matrix::math::matrix::{Matrix, Vector};
 use drifters_real::math::real::{clamp, max, sqrt};
 
 // The inflated innovation covariance; `projected + noise` where that is not positive definite. `alpha` is clamped to 0..1.
-pub fn inflate(innovation: Vector3, projected: Mat3, noise: Mat3, alpha: f64) -> Mat3
-    ensures { result.data ≡ inflate 3 innovation.data projected.data noise.data alpha }
+pub fn inflate<const N: usize, const NN: usize>(
+    innovation: &Vector<N>,
+    projected: &Matrix<N, N, NN>,
+    noise: &Matrix<N, N, NN>,
+    alpha: f64,
+) -> Matrix<N, N, NN>
+    requires { NN ≡ N * N }
+    ensures { result.data ≡ inflate N innovation.now.data projected.now.data noise.now.data alpha }
 {
-    let s = projected.add(noise);
-    let chol = Cholesky3::new(s);
-    if !chol.definite {
-        return s;
+    let mut s = *projected;
+    s.add_in(noise);
+    match Cholesky::new(&s) {
+        None => s,
+        Some(factor) => inflate_at(
+            nis(&factor, innovation),
+            innovation,
+            projected,
+            noise,
+            alpha,
+        ),
     }
-    inflate_at3(
-        nis3(chol.factor, innovation),
-        innovation,
-        projected,
-        noise,
-        alpha,
-    )
 }
 
-// The inflated innovation covariance of one number at the normalised innovation squared r, so that a caller that has factored does not factor
-// again.
-pub fn inflate_at1(r: f64, innovation: Mat1, projected: Mat1, noise: Mat1, alpha: f64) -> Mat1
-    ensures { result.data ≡ inflated_by 1 (beta r) innovation.data projected.data noise.data alpha }
+// The inflated innovation covariance at the normalised innovation squared r, so that a caller that has factored does not factor again.
+pub fn inflate_at<const N: usize, const NN: usize>(
+    r: f64,
+    innovation: &Vector<N>,
+    projected: &Matrix<N, N, NN>,
+    noise: &Matrix<N, N, NN>,
+    alpha: f64,
+) -> Matrix<N, N, NN>
+    requires { NN ≡ N * N }
+    ensures { result.data ≡ inflated_by N (beta r) innovation.now.data projected.now.data noise.now.data alpha }
 {
-    let outer = innovation.mul_transpose(innovation);
+    let outer: Matrix<N, N, NN> = innovation.mul_transpose(innovation);
     let mut data = projected.data;
-    inflate_in(&mut data, &outer.data, &noise.data, r, alpha, 1);
-    Mat1 { data }
+    inflate_in(&mut data, &outer.data, &noise.data, r, alpha);
+    Matrix { data }
 }
 
-// The same of three numbers.
-pub fn inflate_at3(r: f64, innovation: Vector3, projected: Mat3, noise: Mat3, alpha: f64) -> Mat3
-    ensures { result.data ≡ inflated_by 3 (beta r) innovation.data projected.data noise.data alpha }
-{
-    let outer = innovation.mul_transpose(innovation);
-    let mut data = projected.data;
-    inflate_in(&mut data, &outer.data, &noise.data, r, alpha, 9);
-    Mat3 { data }
-}
-
-// The n entries `m` of the projected covariance to those of the inflated one, at the normalised innovation squared r. `outer` has the entries of
+// The entries `m` of the projected covariance to those of the inflated one, at the normalised innovation squared r. `outer` has the entries of
 // y yᵀ.
-fn inflate_in(m: &mut [f64], outer: &[f64], noise: &[f64], r: f64, alpha: f64, n: usize)
-    requires { (length m.old ≡ n) × (length outer.now ≡ n) × (length noise.now ≡ n) }
-    ensures { m.new ≡ add_matrix n (add_matrix n (scaled n m.old (beta r)) (scaled n outer.now (beta r ⊗ clamp alpha plus_zero one))) noise.now }
+fn inflate_in<const N: usize>(
+    m: &mut [f64; N],
+    outer: &[f64; N],
+    noise: &[f64; N],
+    r: f64,
+    alpha: f64,
+)
+    ensures { m.new ≡ add_matrix N (add_matrix N (scaled N m.old (beta r)) (scaled N outer.now (beta r ⊗ clamp alpha plus_zero one))) noise.now }
 {
     let b = beta(r);
     let share = b * clamp(alpha, 0.0, 1.0);
-    for k in 0..n {
-        m[k] = m[k] * b + outer[k] * share + noise[k];
+    for (k, x) in m.iter_mut().enumerate() {
+        *x = *x * b + outer[k] * share + noise[k];
     }
 }
 
-// The normalised innovation squared of one number, with the factor of its variance.
-pub fn nis1(factor: Cholesky1, innovation: Mat1) -> f64
-    ensures { result ≡ nis 1 factor.lower.data innovation.data }
+// The normalised innovation squared, with the factor of the innovation covariance.
+pub fn nis<const N: usize, const NN: usize>(factor: &Cholesky<N, NN>, innovation: &Vector<N>) -> f64
+    requires { NN ≡ N * N }
+    ensures { result ≡ nis N factor.now.lower.data innovation.now.data }
 {
-    let x = factor.solve_vector(innovation);
-    dot(&innovation.data, &x.data, 1)
-}
-
-// The normalised innovation squared of three numbers, with the factor of their covariance.
-pub fn nis3(factor: Cholesky3, innovation: Vector3) -> f64
-    ensures { result ≡ nis 3 factor.lower.data innovation.data }
-{
-    let x = factor.solve_vector(innovation);
-    dot(&innovation.data, &x.data, 3)
+    let x = factor.solve(innovation);
+    dot(&innovation.data, &x.data)
 }
 
 // The factor of inflation: from 1 at r = 0 to 2 at r = 1, and 2 for larger r and for not a number; 1 / (1 + r) below 0.
@@ -89,14 +89,9 @@ pub fn beta(r: f64) -> f64
     }
 }
 
-// The dot product of two columns of n, summed from +0.0.
-fn dot(a: &[f64], b: &[f64], n: usize) -> f64
-    requires { (length a.now ≡ n) × (length b.now ≡ n) }
-    ensures { result ≡ dot_vector n a.now b.now }
+// The dot product of two columns, summed from +0.0.
+fn dot<const N: usize>(a: &[f64; N], b: &[f64; N]) -> f64
+    ensures { result ≡ dot_vector N a.now b.now }
 {
-    let mut sum = 0.0;
-    for i in 0..n {
-        sum = sum + a[i] * b[i];
-    }
-    sum
+    a.iter().zip(b).fold(0.0, |sum, (x, y)| sum + *x * *y)
 }

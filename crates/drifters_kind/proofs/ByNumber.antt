@@ -1,11 +1,12 @@
 -- What is known of every kind by its number and its lengths. A new kind is a line of `kinds_found`; what follows names no kind. Assumes nothing.
 use Prim.Native.Nat.{ℕ, ◌≤◌, ◌<◌}
 use mathlib.Core.Path.{◌≡◌, refl, sym, ap, ◌∙◌}
-use mathlib.Core.Bool.{Bool, true, false, ◌&&◌, cond, false≢true, and-eq-true_iff}
+use mathlib.Core.Bool.{Bool, true, false, ◌&&◌, cond, and-eq-true_iff}
 use mathlib.Core.List.{List, [], ◌∷◌}
-use mathlib.Core.Option.{Option, none, some, some-injective}
 use borrow.Author.Tests.{eqb-true, leb-true, ltb-true}
 use lib.Dec.{eqb, leb, ltb}
+use Rattle.std.specs.Prelude.{Some}
+use Rattle.std.proofs.lemmas.Option.{none-some, same_Some}
 use Rattle.drifters_kind.specs.Kind.{state_length, kind_number, call_length, written_length, most_call_numbers, all_kinds, find_kind, kind_of, KindsFound}
 use Rattle.drifters_kind.specs.declared.kind.Kind.{Kind}
 use Rattle.drifters_kind.specs.declared.kind.Kind.TheVariants.{Propagate, Position, Velocity, Direction, General, State, Scalar}
@@ -22,11 +23,6 @@ kinds_found General = refl
 kinds_found State = refl
 kinds_found Scalar = refl
 
--- whether there is a kind
-abbrev is_kind : Option Kind → Bool
-is_kind none = false
-is_kind (some kind) = true
-
 -- whether a test holds of some kinds
 unfoldable every : (Kind → Bool) → List Kind → Bool
 every p [] = true
@@ -37,15 +33,15 @@ record Found (n : ℕ) (kinds : List Kind) (kind : Kind) : Type 0 where
   number : kind_number kind ≡ n
   tested : (p : Kind → Bool) → every p kinds ≡ true → p kind ≡ true
 
-found_in : (n : ℕ) (kinds : List Kind) {kind : Kind} → find_kind n kinds ≡ some kind → Found n kinds kind
+found_in : (n : ℕ) (kinds : List Kind) {kind : Kind} → find_kind n kinds ≡ Some kind → Found n kinds kind
 unfolding find_kind every
-found_in n [] e = absurd (false≢true (ap is_kind e))
+found_in n [] {kind} e = absurd (none-some kind e)
 found_in n (first ∷ kinds) {kind} e = go (eqb n (kind_number first)) refl e (λ h. found_in n kinds h)
   where
-    go : (b : Bool) → eqb n (kind_number first) ≡ b → cond b (some first) (find_kind n kinds) ≡ some kind
-        → (find_kind n kinds ≡ some kind → Found n kinds kind) → Found n (first ∷ kinds) kind
+    go : (b : Bool) → eqb n (kind_number first) ≡ b → cond b (Some first) (find_kind n kinds) ≡ Some kind
+        → (find_kind n kinds ≡ Some kind → Found n kinds kind) → Found n (first ∷ kinds) kind
     go true t e after =
-        let is = some-injective first kind e in
+        let is = same_Some first kind e in
         record {
           number = ap kind_number (sym is) ∙ sym (eqb-true n (kind_number first) t);
           tested = λ p h. ap p (sym is) ∙ ((and-eq-true_iff (p first) (every p kinds)).0 h).0;
@@ -55,7 +51,7 @@ found_in n (first ∷ kinds) {kind} e = go (eqb n (kind_number first)) refl e (�
         record { number = later.number; tested = λ p h. later.tested p ((and-eq-true_iff (p first) (every p kinds)).0 h).1 }
 
 -- the kind of a number has that number
-pub number_of_kind : (n : ℕ) {kind : Kind} → kind_of n ≡ some kind → kind_number kind ≡ n
+pub number_of_kind : (n : ℕ) {kind : Kind} → kind_of n ≡ Some kind → kind_number kind ≡ n
 number_of_kind n e = (found_in n all_kinds e).number
 
 -- ---- what holds of every kind, by a test that is computed

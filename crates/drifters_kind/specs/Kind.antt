@@ -1,11 +1,8 @@
 -- The kinds of call: the number of each, and how many numbers a call of it has and writes. Definitions and statements only.
-use Rattle.std.specs.Prelude.{ℕ, ◌≡◌, cond, List, [], ◌∷◌, eqb}
-use Rattle.std.proofs.Math.Option.{Option, none, some}
+use Rattle.std.specs.Prelude.{ℕ, ◌≡◌, cond, List, [], ◌∷◌, eqb, Option, Some, None}
 use Rattle.drifters_kind.specs.declared.kind.Kind.{Kind}
 use Rattle.drifters_kind.specs.declared.kind.Kind.TheVariants.{Propagate, Position, Velocity, Direction, General, State, Scalar}
 use Rattle.drifters_kind.specs.declared.kind.Form.{Form}
-use Rattle.drifters_kind.specs.declared.kind.FoundKind.{FoundKind}
-use Rattle.drifters_kind.specs.declared.kind.FoundKind.TheVariants.{Known, Unknown}
 
 -- how many numbers a state has
 abbrev pub state_length : ℕ
@@ -43,18 +40,13 @@ most_call_numbers = 75
 
 -- the first of some kinds that has a number
 unfoldable pub find_kind : ℕ → List Kind → Option Kind
-find_kind n [] = none
-find_kind n (kind ∷ kinds) = cond (eqb n (kind_number kind)) (some kind) (find_kind n kinds)
+find_kind n [] = None
+find_kind n (kind ∷ kinds) = cond (eqb n (kind_number kind)) (Some kind) (find_kind n kinds)
 
--- the kind of a number; none where no kind has it
+-- the kind of a number; None where no kind has it
 abbrev pub kind_of : ℕ → Option Kind
 kind_of n = find_kind n all_kinds
 
 -- every kind is found by its number
 abbrev pub KindsFound : Type 0
-KindsFound = (kind : Kind) → kind_of (kind_number kind) ≡ some kind
-
--- the kind that was found
-abbrev pub found : FoundKind → Option Kind
-found (Known kind) = some kind
-found Unknown = none
+KindsFound = (kind : Kind) → kind_of (kind_number kind) ≡ Some kind

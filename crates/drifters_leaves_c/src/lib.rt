@@ -1,10 +1,9 @@
 // The leaves, exported for the comparison with the original only: each function takes every number, and writes only what it is lent.
-// drifters_eqf_c exports what a product calls.
+// drifters_eqf_c exports what a product calls. The C interface lends arrays, and passes no generic struct: a leaf copies them into matrices.
 #![tactic(auto)]
 
-ghost use Rattle.std.specs.Prelude.{◌≡◌, cond};
+ghost use Rattle.std.specs.Prelude.{◌≡◌, cond, Some, None};
 ghost use Rattle.drifters_core.specs.Vec3.{from_array, to_array, normalized, amax_vec3};
-ghost use Rattle.drifters_core.specs.declared.math.vec3.Normalized.TheVariants.{Unit, None};
 ghost use Rattle.drifters_matrix.specs.Matrix.{matmul, mul_transpose, from_diagonal, symmetrize, amax};
 ghost use Rattle.drifters_cholesky.specs.Cholesky.{definite, entries_of, cholesky, solve};
 ghost use Rattle.drifters_quat.specs.Quat.{from_rotation_vector, to_dcm};
@@ -13,30 +12,28 @@ ghost use Rattle.drifters_adjoint.specs.Adjoint.{integrated_adjoint};
 ghost use Rattle.drifters_gcu.specs.Gcu.{beta};
 
 use drifters_adjoint::adjoint::integrated_adjoint;
-use drifters_cholesky::math::cholesky::Cholesky3;
-use drifters_core::math::vec3::{Normalized, Vec3};
+use drifters_cholesky::math::cholesky::Cholesky;
+use drifters_core::math::vec3::Vec3;
 use drifters_gcu::gcu::beta;
 use drifters_lie::lie::{Se3Tangent, left_jacobian};
-use drifters_matrix::math::in_place::{matmul3x21, matmul21, mul_transpose21, symmetrize21};
-use drifters_matrix::math::shapes::{
-    Mat3, Mat3x21, Mat6, Mat18, Mat21, Mat21x3, Mat21x18, Vector3, Vector6,
+use drifters_matrix::math::matrix::{
+    Mat3, Mat3x21, Mat6, Mat18, Mat21, Mat21x3, Mat21x18, Vector3, Vector6, Vector21,
 };
 use drifters_quat::math::quat::Quat;
 
 // Whether `v` has a vector over its norm, which is then in `out`; else `out` is as it was.
 #[unsafe(no_mangle)]
 pub extern "C" fn drifters_normalized(v: &[f64; 3], out: &mut [f64; 3]) -> bool
-    ensures { (cond result (Unit (from_array out.new)) None ≡ normalized (from_array v.now)) × (out.new ≡ cond result out.new out.old) }
+    ensures { (cond result (Some (from_array out.new)) None ≡ normalized (from_array v.now)) × (out.new ≡ cond result out.new out.old) }
 {
     let a = *v;
-    let n = Vec3::from_array(a).normalized();
-    match n {
-        Normalized::Unit(unit) => {
+    match Vec3::from_array(a).normalized() {
+        Some(unit) => {
             let b = unit.to_array();
             *out = b;
             true
         }
-        Normalized::None => false,
+        None => false,
     }
 }
 
@@ -67,7 +64,7 @@ pub extern "C" fn drifters_rotation(phi: &[f64; 3], q: &mut [f64; 4], dcm: &mut 
 pub extern "C" fn drifters_matmul_3_3_3(a: &[f64; 9], b: &[f64; 9], out: &mut [f64; 9])
     ensures { out.new ≡ matmul 3 3 3 a.now b.now }
 {
-    let p = Mat3 { data: *a }.matmul(Mat3 { data: *b });
+    let p: Mat3 = Mat3 { data: *a }.matmul(&Mat3 { data: *b });
     let d = p.data;
     *out = d;
 }
@@ -76,7 +73,7 @@ pub extern "C" fn drifters_matmul_3_3_3(a: &[f64; 9], b: &[f64; 9], out: &mut [f
 pub extern "C" fn drifters_matmul_6_6_6(a: &[f64; 36], b: &[f64; 36], out: &mut [f64; 36])
     ensures { out.new ≡ matmul 6 6 6 a.now b.now }
 {
-    let p = Mat6 { data: *a }.matmul(Mat6 { data: *b });
+    let p: Mat6 = Mat6 { data: *a }.matmul(&Mat6 { data: *b });
     let d = p.data;
     *out = d;
 }
@@ -85,7 +82,7 @@ pub extern "C" fn drifters_matmul_6_6_6(a: &[f64; 36], b: &[f64; 36], out: &mut 
 pub extern "C" fn drifters_matmul_6_6_1(a: &[f64; 36], b: &[f64; 6], out: &mut [f64; 6])
     ensures { out.new ≡ matmul 6 6 1 a.now b.now }
 {
-    let p = Mat6 { data: *a }.matmul_vector(Vector6 { data: *b });
+    let p: Vector6 = Mat6 { data: *a }.matmul(&Vector6 { data: *b });
     let d = p.data;
     *out = d;
 }
@@ -94,21 +91,25 @@ pub extern "C" fn drifters_matmul_6_6_1(a: &[f64; 36], b: &[f64; 6], out: &mut [
 pub extern "C" fn drifters_matmul_21_21_21(a: &[f64; 441], b: &[f64; 441], out: &mut [f64; 441])
     ensures { out.new ≡ matmul 21 21 21 a.now b.now }
 {
-    matmul21(a, b, out);
+    let p: Mat21 = Mat21 { data: *a }.matmul(&Mat21 { data: *b });
+    let d = p.data;
+    *out = d;
 }
 
 #[unsafe(no_mangle)]
 pub extern "C" fn drifters_matmul_3_21_21(a: &[f64; 63], b: &[f64; 441], out: &mut [f64; 63])
     ensures { out.new ≡ matmul 3 21 21 a.now b.now }
 {
-    matmul3x21(a, b, out);
+    let p: Mat3x21 = Mat3x21 { data: *a }.matmul(&Mat21 { data: *b });
+    let d = p.data;
+    *out = d;
 }
 
 #[unsafe(no_mangle)]
 pub extern "C" fn drifters_matmul_21_3_1(a: &[f64; 63], b: &[f64; 3], out: &mut [f64; 21])
     ensures { out.new ≡ matmul 21 3 1 a.now b.now }
 {
-    let p = Mat21x3 { data: *a }.matmul_vector(Vector3 { data: *b });
+    let p: Vector21 = Mat21x3 { data: *a }.matmul(&Vector3 { data: *b });
     let d = p.data;
     *out = d;
 }
@@ -117,7 +118,7 @@ pub extern "C" fn drifters_matmul_21_3_1(a: &[f64; 63], b: &[f64; 3], out: &mut 
 pub extern "C" fn drifters_matmul_21_3_3(a: &[f64; 63], b: &[f64; 9], out: &mut [f64; 63])
     ensures { out.new ≡ matmul 21 3 3 a.now b.now }
 {
-    let p = Mat21x3 { data: *a }.matmul3(Mat3 { data: *b });
+    let p: Mat21x3 = Mat21x3 { data: *a }.matmul(&Mat3 { data: *b });
     let d = p.data;
     *out = d;
 }
@@ -126,7 +127,7 @@ pub extern "C" fn drifters_matmul_21_3_3(a: &[f64; 63], b: &[f64; 9], out: &mut 
 pub extern "C" fn drifters_matmul_21_3_21(a: &[f64; 63], b: &[f64; 63], out: &mut [f64; 441])
     ensures { out.new ≡ matmul 21 3 21 a.now b.now }
 {
-    let p = Mat21x3 { data: *a }.matmul21(Mat3x21 { data: *b });
+    let p: Mat21 = Mat21x3 { data: *a }.matmul(&Mat3x21 { data: *b });
     let d = p.data;
     *out = d;
 }
@@ -135,7 +136,7 @@ pub extern "C" fn drifters_matmul_21_3_21(a: &[f64; 63], b: &[f64; 63], out: &mu
 pub extern "C" fn drifters_matmul_21_18_18(a: &[f64; 378], b: &[f64; 324], out: &mut [f64; 378])
     ensures { out.new ≡ matmul 21 18 18 a.now b.now }
 {
-    let p = Mat21x18 { data: *a }.matmul(Mat18 { data: *b });
+    let p: Mat21x18 = Mat21x18 { data: *a }.matmul(&Mat18 { data: *b });
     let d = p.data;
     *out = d;
 }
@@ -148,14 +149,16 @@ pub extern "C" fn drifters_mul_transpose_21_21_21(
 )
     ensures { out.new ≡ mul_transpose 21 21 21 a.now b.now }
 {
-    mul_transpose21(a, b, out);
+    let p: Mat21 = Mat21 { data: *a }.mul_transpose(&Mat21 { data: *b });
+    let d = p.data;
+    *out = d;
 }
 
 #[unsafe(no_mangle)]
 pub extern "C" fn drifters_mul_transpose_3_21_3(a: &[f64; 63], b: &[f64; 63], out: &mut [f64; 9])
     ensures { out.new ≡ mul_transpose 3 21 3 a.now b.now }
 {
-    let p = Mat3x21 { data: *a }.mul_transpose(Mat3x21 { data: *b });
+    let p: Mat3 = Mat3x21 { data: *a }.mul_transpose(&Mat3x21 { data: *b });
     let d = p.data;
     *out = d;
 }
@@ -164,7 +167,7 @@ pub extern "C" fn drifters_mul_transpose_3_21_3(a: &[f64; 63], b: &[f64; 63], ou
 pub extern "C" fn drifters_mul_transpose_21_3_21(a: &[f64; 63], b: &[f64; 63], out: &mut [f64; 441])
     ensures { out.new ≡ mul_transpose 21 3 21 a.now b.now }
 {
-    let p = Mat21x3 { data: *a }.mul_transpose(Mat21x3 { data: *b });
+    let p: Mat21 = Mat21x3 { data: *a }.mul_transpose(&Mat21x3 { data: *b });
     let d = p.data;
     *out = d;
 }
@@ -174,10 +177,9 @@ pub extern "C" fn drifters_mul_transpose_21_3_21(a: &[f64; 63], b: &[f64; 63], o
 pub extern "C" fn drifters_mul_diagonal_21_18(a: &[f64; 378], d: &[f64; 18], out: &mut [f64; 378])
     ensures { out.new ≡ matmul 21 18 18 a.now (from_diagonal 18 d.now) }
 {
-    let numbers = *d;
-    let p = Mat21x18 { data: *a }.mul_diagonal(numbers);
-    let m = p.data;
-    *out = m;
+    let p = Mat21x18 { data: *a }.mul_diagonal::<324>(*d);
+    let d = p.data;
+    *out = d;
 }
 
 #[unsafe(no_mangle)]
@@ -188,7 +190,7 @@ pub extern "C" fn drifters_mul_transpose_21_18_21(
 )
     ensures { out.new ≡ mul_transpose 21 18 21 a.now b.now }
 {
-    let p = Mat21x18 { data: *a }.mul_transpose(Mat21x18 { data: *b });
+    let p: Mat21 = Mat21x18 { data: *a }.mul_transpose(&Mat21x18 { data: *b });
     let d = p.data;
     *out = d;
 }
@@ -197,7 +199,7 @@ pub extern "C" fn drifters_mul_transpose_21_18_21(
 pub extern "C" fn drifters_mul_transpose_3_1_3(a: &[f64; 3], b: &[f64; 3], out: &mut [f64; 9])
     ensures { out.new ≡ mul_transpose 3 1 3 a.now b.now }
 {
-    let p = Vector3 { data: *a }.mul_transpose(Vector3 { data: *b });
+    let p: Mat3 = Vector3 { data: *a }.mul_transpose(&Vector3 { data: *b });
     let d = p.data;
     *out = d;
 }
@@ -206,7 +208,10 @@ pub extern "C" fn drifters_mul_transpose_3_1_3(a: &[f64; 3], b: &[f64; 3], out: 
 pub extern "C" fn drifters_symmetrize21(m: &mut [f64; 441])
     ensures { m.new ≡ symmetrize 21 m.old }
 {
-    symmetrize21(m);
+    let mut p = Mat21 { data: *m };
+    p.symmetrize();
+    let d = p.data;
+    *m = d;
 }
 
 #[unsafe(no_mangle)]
@@ -221,13 +226,17 @@ pub extern "C" fn drifters_amax21(m: &[f64; 441]) -> f64
 pub extern "C" fn drifters_cholesky3(a: &[f64; 9], lower: &mut [f64; 9]) -> bool
     ensures { (result ≡ definite (cholesky 3 a.now)) × (lower.new ≡ entries_of 3 (cholesky 3 a.now)) }
 {
-    let x = *a;
-    let f = Cholesky3::new(Mat3 { data: x });
-    let c = f.factor;
-    let l = c.lower;
-    let d = l.data;
-    *lower = d;
-    f.definite
+    match Cholesky::new(&Mat3 { data: *a }) {
+        Some(factor) => {
+            let d = factor.lower.data;
+            *lower = d;
+            true
+        }
+        None => {
+            *lower = [0.0; 9];
+            false
+        }
+    }
 }
 
 // The solution of L Lᵀ X = B, three rows of 21.
@@ -235,12 +244,11 @@ pub extern "C" fn drifters_cholesky3(a: &[f64; 9], lower: &mut [f64; 9]) -> bool
 pub extern "C" fn drifters_solve3(lower: &[f64; 9], b: &[f64; 63], out: &mut [f64; 63])
     ensures { out.new ≡ solve 3 21 lower.now b.now }
 {
-    let x = *lower;
-    let y = *b;
-    let l = Mat3 { data: x };
-    let c = Cholesky3 { lower: l };
-    let s = c.solve(Mat3x21 { data: y });
-    let d = s.data;
+    let factor = Cholesky {
+        lower: Mat3 { data: *lower },
+    };
+    let x: Mat3x21 = factor.solve(&Mat3x21 { data: *b });
+    let d = x.data;
     *out = d;
 }
 

@@ -8,7 +8,7 @@ use Rattle.drifters_matrix.specs.Matrix.{zeros, transpose, matmul, scaled, set_b
 use Rattle.drifters_core.specs.Vec3.{vec3, zero_vec3, to_array, cross, norm_squared, skew, add_vec3, sub_vec3, neg_vec3, mul_vec3, mul_mat3_vec3}
 use Rattle.drifters_quat.specs.Quat.{from_rotation_vector, to_dcm}
 use Rattle.drifters_core.specs.declared.math.vec3.Vec3.{Vec3}
-use Rattle.drifters_matrix.specs.declared.math.shapes.Mat3.{Mat3}
+use Rattle.drifters_matrix.specs.Shapes.{Mat3}
 use Rattle.drifters_lie.specs.declared.lie.Se23Tangent.{Se23Tangent}
 use Rattle.drifters_lie.specs.declared.lie.Se3Tangent.{Se3Tangent}
 use Rattle.drifters_lie.specs.declared.lie.Se23.{Se23}

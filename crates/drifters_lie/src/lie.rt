@@ -1,10 +1,10 @@
 // Port of lie.rs: the Lie groups SE₂(3) and SE(3), their algebras, and the left Jacobian of SO(3), by value. The operators are named
-// functions.
+// functions, and `from_array` and `to_array` have the original's names.
 ghost use Rattle.std.specs.Prelude.{◌≡◌};
 ghost use Rattle.drifters_lie.specs.Lie.{se23_tangent, se3_tangent, to_array_se23, scaled_se23, pi, to_array_se3, from_array_se3, bracket_se3, ad_se3, add_se3, sub_se3, neg_se3, add_se23, jacobian_a, jacobian_b, left_jacobian, identity_se23, compose_se23, inverse_se23, adjoint_apply_se23, chi, exp_with, exp_se23, inverse_se3, adjoint_se3, adjoint_apply_se3, exp_se3};
 
 use drifters_core::math::vec3::{Vec3, mul_vec3};
-use drifters_matrix::math::shapes::{Mat3, Mat6};
+use drifters_matrix::math::matrix::{Mat3, Mat6};
 use drifters_quat::math::quat::Quat;
 use drifters_real::math::real::{sin_cos, sqrt};
 
@@ -106,10 +106,11 @@ impl Se3Tangent {
     pub fn ad(self) -> Mat6
         ensures { result.data ≡ ad_se3 self }
     {
-        let m = Mat6::zeros();
-        let m = m.set_block(0, 0, self.omega.skew());
-        let m = m.set_block(3, 0, self.nu.skew());
-        m.set_block(3, 3, self.omega.skew())
+        let mut m = Mat6::zeros();
+        m.set_block(0, 0, &self.omega.skew());
+        m.set_block(3, 0, &self.nu.skew());
+        m.set_block(3, 3, &self.omega.skew());
+        m
     }
 
     pub fn add(self, rhs: Se3Tangent) -> Se3Tangent
@@ -157,7 +158,7 @@ impl Se23 {
     {
         let a = self.rotation;
         Se23 {
-            rotation: a.matmul(other.rotation),
+            rotation: a.matmul(&other.rotation),
             velocity: mul_vec3(a, other.velocity).add(self.velocity),
             position: mul_vec3(a, other.position).add(self.position),
         }
@@ -244,10 +245,12 @@ impl Se3 {
         ensures { result.data ≡ adjoint_se3 self }
     {
         let rotation = self.rotation;
-        let m = Mat6::zeros();
-        let m = m.set_block(0, 0, rotation);
-        let m = m.set_block(3, 0, self.translation.skew().matmul(rotation));
-        m.set_block(3, 3, rotation)
+        let lower: Mat3 = self.translation.skew().matmul(&rotation);
+        let mut m = Mat6::zeros();
+        m.set_block(0, 0, &rotation);
+        m.set_block(3, 0, &lower);
+        m.set_block(3, 3, &rotation);
+        m
     }
 
     // The adjoint, applied without its matrix.
@@ -307,6 +310,6 @@ pub fn left_jacobian(omega: Vec3) -> Mat3
 {
     let f = jacobian_factors(omega.norm_squared());
     let s = omega.skew();
-    let s2 = s.matmul(s);
+    let s2: Mat3 = s.matmul(&s);
     Mat3::identity().add(s.scaled(f.a)).add(s2.scaled(f.b))
 }

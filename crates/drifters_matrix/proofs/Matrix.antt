@@ -3,6 +3,7 @@ pub mod Tab
 pub mod Grid
 pub mod RowStart
 pub mod Elements
+pub mod Folds
 pub mod Sums
 pub mod Skips
 pub mod Columns

@@ -1,2 +1,3 @@
 -- What a reader must believe of matrices.
 pub mod Matrix
+pub mod Shapes

@@ -1,4 +1,3 @@
 // Matrices.
-pub mod in_place;
 pub mod matrix;
-pub mod shapes;
+pub mod runs;

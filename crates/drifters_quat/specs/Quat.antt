@@ -7,7 +7,7 @@ use Rattle.drifters_real.specs.Real.{sqrt, sin, cos, small_angle, is_finite}
 use Rattle.drifters_core.specs.Vec3.{vec3, cross, norm, add_vec3, mul_vec3, mat3}
 use Rattle.drifters_core.specs.declared.math.vec3.Vec3.{Vec3}
 use Rattle.drifters_quat.specs.declared.math.quat.Quat.{Quat}
-use Rattle.drifters_matrix.specs.declared.math.shapes.Mat3.{Mat3}
+use Rattle.drifters_matrix.specs.Shapes.{Mat3}
 
 -- 48.0, of the short form of the sine's half angle
 abbrev pub forty_eight : Float

@@ -4,7 +4,7 @@ use Rattle.drifters_real.specs.Scalar.{half}
 use Rattle.drifters_matrix.specs.Matrix.{zeros, set_block}
 use Rattle.drifters_core.specs.Vec3.{zero_vec3, skew, add_vec3, mul_vec3, mul_mat3_vec3}
 use Rattle.drifters_core.specs.declared.math.vec3.Vec3.{Vec3}
-use Rattle.drifters_matrix.specs.declared.math.shapes.Mat3.{Mat3}
+use Rattle.drifters_matrix.specs.Shapes.{Mat3}
 use Rattle.drifters_lie.specs.Lie.{identity3, matmul3, neg3, se23_tangent, pi, ad_se3, add_se3, add_se23, adjoint_apply_se23}
 use Rattle.drifters_symmetry.specs.Group.{attitude_offset, velocity_offset, position_offset, gyro_bias_offset, accel_bias_offset, lever_offset, mag_offset, inverse, act_direction, act_position, act_velocity}
 use Rattle.drifters_symmetry.specs.declared.group.Symmetry.{Symmetry}

@@ -1,4 +1,4 @@
-// Port of group.rs: the symmetry group, its algebra, and its action on the state, by value.
+// Port of group.rs: the symmetry group, its algebra, and its action on the state, by value. `from_array` and `to_array` have the original's names.
 ghost use Rattle.std.specs.Prelude.{◌≡◌, ◌+◌, ◌≤◌, ◌<◌};
 ghost use Rattle.drifters_lie.specs.Lie.{vec3_at, chi};
 ghost use Rattle.drifters_symmetry.specs.Group.{compose, inverse, to_array21, scaled_algebra, from_array21, bracket, unit, ad, exp, adjoint_apply, default_state, from_state, act_state, act_direction, act_position, act_velocity};
@@ -6,8 +6,7 @@ ghost use Rattle.drifters_symmetry.specs.Group.{compose, inverse, to_array21, sc
 use drifters_adjoint::adjoint::integrated_adjoint;
 use drifters_core::math::vec3::{Vec3, mul_vec3};
 use drifters_lie::lie::{Se3, Se3Tangent, Se23, Se23Tangent, left_jacobian};
-use drifters_matrix::math::in_place::set_column21;
-use drifters_matrix::math::shapes::{Mat3, Mat21, Vector6};
+use drifters_matrix::math::matrix::{Mat3, Mat21, Vector6};
 use drifters_quat::math::quat::Quat;
 
 // The 21 coordinates of the error, and of its covariance: the error of the estimate in the normal coordinates of the group, three to each
@@ -61,7 +60,7 @@ impl Symmetry {
             c: self.c.compose(other.c),
             gamma: self.gamma.add(self.b().adjoint_apply(other.gamma)),
             delta: self.delta.add(mul_vec3(self.a(), other.delta)),
-            e: self.e.matmul(other.e),
+            e: self.e.matmul(&other.e),
         }
     }
 
@@ -85,7 +84,7 @@ impl Symmetry {
         let jacobian = left_jacobian(t.omega);
         let bias = u.gamma.to_array();
         let column = Vector6 { data: bias };
-        let product = integrated_adjoint(t.pi()).matmul_vector(column);
+        let product: Vector6 = integrated_adjoint(t.pi()).matmul(&column);
         let gamma = product.data;
         Symmetry {
             c: Se23::exp_with(t, jacobian),
@@ -124,7 +123,7 @@ impl Symmetry {
         let a = c.rotation;
         let gamma = c.chi().adjoint_apply(xi.bias).neg();
         let delta = mul_vec3(a, xi.lever).neg();
-        let e = a.matmul(xi.mag);
+        let e: Mat3 = a.matmul(&xi.mag);
         Symmetry { c, gamma, delta, e }
     }
 }
@@ -206,11 +205,11 @@ impl Algebra {
     pub fn ad(self) -> Mat21
         ensures { result.data ≡ ad self }
     {
-        let mut data = [0.0; 441];
+        let mut m = Mat21::zeros();
         for k in 0..21 {
-            set_column21(&mut data, k, self.bracket_unit(k));
+            m.set_column(k, self.bracket_unit(k));
         }
-        Mat21 { data }
+        m
     }
 
     // The numbers of the bracket with unit k.
@@ -260,11 +259,12 @@ pub fn act_state(x: Symmetry, xi: State) -> State
     ensures { result ≡ act_state x xi }
 {
     let a_t = x.a().transpose();
+    let mag: Mat3 = a_t.matmul(&xi.mag);
     State {
         pose: xi.pose.compose(x.c),
         bias: x.b().inverse().adjoint_apply(xi.bias.sub(x.gamma)),
         lever: mul_vec3(a_t, xi.lever.sub(x.delta)),
-        mag: a_t.matmul(xi.mag).matmul(x.e),
+        mag: mag.matmul(&x.e),
     }
 }
 

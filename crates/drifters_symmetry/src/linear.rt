@@ -9,30 +9,29 @@ use crate::group::{
 use crate::lift::Input;
 use drifters_core::math::vec3::{Vec3, mul_vec3};
 use drifters_lie::lie::Se23Tangent;
-use drifters_matrix::math::shapes::{Mat3, Mat3x21, Mat21};
+use drifters_matrix::math::matrix::{Mat3, Mat3x21, Mat21};
 
 // The linearised dynamics at x, for the input u.
 pub fn state_matrix(x: Symmetry, u: Input, gravity: Vec3) -> Mat21
     ensures { result.data ≡ state_matrix x u gravity }
 {
-    let m = Mat21::zeros();
-    let m = m.set_block(VELOCITY, ATTITUDE, gravity.skew());
-    let m = m.set_block(POSITION, VELOCITY, Mat3::identity());
-    let m = m.set_block(ATTITUDE, GYRO_BIAS, Mat3::identity());
-    let m = m.set_block(VELOCITY, ACCEL_BIAS, Mat3::identity());
-    let m = m.set_block(POSITION, GYRO_BIAS, x.c.position.skew());
     let w = Se23Tangent::new(u.omega, u.accel, Vec3::ZERO);
     let g = Se23Tangent::new(Vec3::ZERO, gravity, Vec3::ZERO);
-    let m = m.set_block6(
-        GYRO_BIAS,
-        GYRO_BIAS,
-        x.gamma.add(x.c.adjoint_apply(w).add(g).pi()).ad(),
-    );
+    let ad = x.gamma.add(x.c.adjoint_apply(w).add(g).pi()).ad();
     let a3 = mul_vec3(x.a(), u.omega).add(x.gamma.omega).skew();
-    let m = m.set_block(LEVER, LEVER, a3);
-    let m = m.set_block(MAG, MAG, a3);
-    let m = m.set_block(MAG, ATTITUDE, a3.neg());
-    m.set_block(MAG, GYRO_BIAS, Mat3::identity())
+    let one = Mat3::identity();
+    let mut m = Mat21::zeros();
+    m.set_block(VELOCITY, ATTITUDE, &gravity.skew());
+    m.set_block(POSITION, VELOCITY, &one);
+    m.set_block(ATTITUDE, GYRO_BIAS, &one);
+    m.set_block(VELOCITY, ACCEL_BIAS, &one);
+    m.set_block(POSITION, GYRO_BIAS, &x.c.position.skew());
+    m.set_block(GYRO_BIAS, GYRO_BIAS, &ad);
+    m.set_block(LEVER, LEVER, &a3);
+    m.set_block(MAG, MAG, &a3);
+    m.set_block(MAG, ATTITUDE, &a3.neg());
+    m.set_block(MAG, GYRO_BIAS, &one);
+    m
 }
 
 // The skew matrix of the mean of two vectors.
@@ -46,28 +45,34 @@ fn skew_mean(v: Vec3, w: Vec3) -> Mat3
 pub fn direction_output_matrix(origin: Vec3, transported: Vec3) -> Mat3x21
     ensures { result.data ≡ direction_output_matrix origin transported }
 {
-    let m = Mat3x21::zeros();
-    m.set_block(0, MAG, origin.skew().matmul(skew_mean(origin, transported)))
+    let mean = skew_mean(origin, transported);
+    let block: Mat3 = origin.skew().matmul(&mean);
+    let mut m = Mat3x21::zeros();
+    m.set_block(0, MAG, &block);
+    m
 }
 
 // The output matrix of a position.
 pub fn position_output_matrix(origin: Vec3, transported: Vec3) -> Mat3x21
     ensures { result.data ≡ position_output_matrix origin transported }
 {
-    let m = Mat3x21::zeros();
-    let m = m.set_block(0, ATTITUDE, skew_mean(origin, transported));
-    let m = m.set_block(0, POSITION, Mat3::identity().neg());
-    m.set_block(0, LEVER, Mat3::identity())
+    let one = Mat3::identity();
+    let mut m = Mat3x21::zeros();
+    m.set_block(0, ATTITUDE, &skew_mean(origin, transported));
+    m.set_block(0, POSITION, &one.neg());
+    m.set_block(0, LEVER, &one);
+    m
 }
 
 // The output matrix of a velocity, at the rate in the reference frame.
 pub fn velocity_output_matrix(origin: Vec3, transported: Vec3, rate: Vec3) -> Mat3x21
     ensures { result.data ≡ velocity_output_matrix origin transported rate }
 {
-    let m = Mat3x21::zeros();
-    let m = m.set_block(0, ATTITUDE, skew_mean(origin, transported));
-    let m = m.set_block(0, VELOCITY, Mat3::identity().neg());
-    m.set_block(0, LEVER, rate.skew())
+    let mut m = Mat3x21::zeros();
+    m.set_block(0, ATTITUDE, &skew_mean(origin, transported));
+    m.set_block(0, VELOCITY, &Mat3::identity().neg());
+    m.set_block(0, LEVER, &rate.skew());
+    m
 }
 
 // A measured direction in the error frame.

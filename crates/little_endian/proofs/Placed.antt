@@ -1,13 +1,12 @@
 -- The laws of `placed`. Assumes nothing.
-use Prim.Native.Nat.{ℕ, ◌+◌, ◌≤◌, ◌<◌}
+use Prim.Native.Nat.{ℕ, ◌+◌, ◌≤◌}
 use mathlib.Core.Path.{◌≡◌, sym, ap, ◌∙◌}
 use mathlib.Core.List.{List, [], ◌++◌, append_assoc, append-nil}
 use native.Mathlib.Nat.{add-zero}
-use native.Mathlib.Numerals.{add-one}
 use native.Mathlib.Omega.{arith}
 use borrow.Rule.Slice.PartMut.{put_mid}
-use lib.ListN.{length, get_or, set, take, drop, length-append, length-drop, take-append-drop}
-use lib.Seq.{length-take-le, take_at, drop-append-add, drop-drop, paste, paste-suc, take-length}
+use lib.ListN.{length, take, drop, length-append, length-drop, take-append-drop}
+use lib.Seq.{length-take-le, take_at, drop-append-add, drop-drop}
 use Rattle.little_endian.specs.Bytes.{placed}
 
 -- nothing is placed
@@ -65,17 +64,3 @@ put_then {run} {mid} {out} {a} {p} {q} {r} b g e f =
       until = e ∙ omega (arith, g.until, length-append a b);
       is = f ∙ (λ i. placed (g.is i) (g.until i) b) ∙ placed_after run p a b g.within;
     }
-
--- ---- one place after another
-
--- one more of the others is stored
-pub paste_step : (run out others : List ℕ) (at i : ℕ) → out ≡ paste run at others i → at + i < length run → i < length others →
-    set out (at + i) (get_or others i 0) ≡ paste run at others (i + 1)
-paste_step run out others at i e h g =
-    ap (λ (l : List ℕ). set l (at + i) (get_or others i 0)) e ∙ paste-suc run at others i 0 h g ∙ ap (paste run at others) (sym (add-one i))
-
--- all are stored
-pub paste_done : (run out others : List ℕ) (at i : ℕ) → out ≡ paste run at others i → i ≡ length others → out ≡ placed run at others
-unfolding placed
-paste_done run out others at i e g =
-    e ∙ ap (paste run at others) g ∙ ap (λ (l : List ℕ). take at run ++ l ++ drop (at + length others) run) (take-length others)

@@ -24,7 +24,7 @@ bytes_of zero n = []
 bytes_of (suc k) n = n % 256 ∷ bytes_of k (n / 256)
 
 -- a run with others in the places from p on; its other places stay
-unfoldable pub placed : List ℕ → ℕ → List ℕ → List ℕ
+unfoldable pub placed : {A : Type 0} → List A → ℕ → List A → List A
 placed run p others = take p run ++ others ++ drop (p + length others) run
 
 -- a run with a u32 in the four bytes from a place on; where it does not fit, the run as it was

@@ -5,5 +5,5 @@ use replay_lists::compasses::replay_compasses;
 use std::io;
 
 fn main(rt: HostRuntime) -> io::Result<()> {
-    replay_compasses(&rt, b"compasses", b"compasses.bin")
+    replay_compasses(&rt, "compasses", "compasses.bin")
 }

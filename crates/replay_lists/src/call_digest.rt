@@ -1,9 +1,9 @@
-// What came of a call, and whether the original's stored answer is the same.
-use drifters_eqf::filter::Answer;
+// What came of a call, and the original's stored answer.
+use crate::numbers::bits_at;
+use drifters_eqf::answer::Answer;
 use little_endian::bits::bits_of;
-use little_endian::bytes::u64_at;
 
-// Of a stored answer: a code, the bits of the NIS, what else was given, the digest of the filter.
+// The bytes of a stored answer.
 pub const ANSWER_BYTES: usize = 32;
 
 // The code of a NIS, which no refusal has.
@@ -20,36 +20,43 @@ pub struct CallDigest {
     pub(crate) filter: u64,
 }
 
-// 0 for ok, 256 for a NIS, else the number of the refusal.
-fn code(answer: Answer) -> u64 {
-    match answer {
-        Answer::Fine => 0,
-        Answer::Nis(_) => NIS,
-        Answer::Refused(n) => n as u64,
+// An answer as it is stored.
+#[derive(Clone, Copy, PartialEq, Eq)]
+pub(crate) struct Stored {
+    // 0 for ok, 256 for a NIS, else the number of the refusal.
+    code: u64,
+    // The bits of a NIS; 0 for another answer.
+    nis: u64,
+    more: u64,
+    // The digest of the filter.
+    filter: u64,
+}
+
+impl Stored {
+    // The answer in the 32 bytes from a place on.
+    pub(crate) fn at(s: &[u8], at: usize) -> Stored {
+        let [code, nis, more, filter]: [u64; 4] = bits_at(s, at);
+        Stored {
+            code,
+            nis,
+            more,
+            filter,
+        }
     }
 }
 
-// The bits of a NIS; 0 for another answer.
-fn nis_bits(answer: Answer) -> u64 {
-    match answer {
-        Answer::Nis(x) => bits_of(x),
-        _ => 0,
-    }
-}
-
-impl CallDigest {
-    // Whether the answer stored from a place on is the same. Where there is none it is not.
-    pub(crate) fn is_stored(self, answers: &[u8], at: usize) -> bool {
-        if answers.len() < ANSWER_BYTES {
-            return false;
+impl From<CallDigest> for Stored {
+    fn from(given: CallDigest) -> Stored {
+        let (code, nis) = match given.answer {
+            Ok(None) => (0, 0),
+            Ok(Some(nis)) => (NIS, bits_of(nis)),
+            Err(refusal) => (u64::from(u32::from(refusal)), 0),
+        };
+        Stored {
+            code,
+            nis,
+            more: given.more,
+            filter: given.filter,
         }
-        if at > answers.len() - ANSWER_BYTES {
-            return false;
-        }
-        let answer = self.answer;
-        (code(answer) == u64_at(answers, at))
-            & (nis_bits(answer) == u64_at(answers, at + 8))
-            & (self.more == u64_at(answers, at + 16))
-            & (self.filter == u64_at(answers, at + 24))
     }
 }

@@ -2,27 +2,20 @@
 use crate::call_digest::{CallDigest, UNTOUCHED};
 use crate::digest::digest;
 use drifters_entry::entry::call;
-use drifters_kind::kind::{Kind, MOST_CALL_NUMBERS, STATE_LENGTH, call_length, written_length};
+use drifters_kind::kind::{Kind, MOST_CALL_NUMBERS, STATE_LENGTH};
+use little_endian::bits::numbers_of;
 
-// The digest of the run that was lent for a state. It comes as an array, so that its length is known.
-fn state_digest(state: &[f64; STATE_LENGTH]) -> u64 {
-    digest(state)
-}
-
-// The run lent for a state, before a call.
-fn untouched() -> [f64; STATE_LENGTH] {
-    [UNTOUCHED; STATE_LENGTH]
-}
-
-// Makes a call by the first of some numbers.
-pub fn run_call(kind: Kind, run: &mut [f64], numbers: [f64; MOST_CALL_NUMBERS]) -> CallDigest {
-    let mut state = untouched();
-    let n = call_length(kind);
-    let m = written_length(kind);
+// Makes a call by the bits of its numbers.
+pub fn run_call(kind: Kind, run: &mut [f64], bits: &[u64]) -> CallDigest {
+    let mut numbers = [0.0; MOST_CALL_NUMBERS];
+    let n = kind.call_length();
+    numbers_of(bits, &mut numbers[..n]);
+    let mut state = [UNTOUCHED; STATE_LENGTH];
+    let m = kind.written_length();
     let answer = call(kind, run, &numbers[..n], &mut state[..m]);
     CallDigest {
         answer,
-        more: state_digest(&state),
+        more: digest(&state),
         filter: digest(run),
     }
 }

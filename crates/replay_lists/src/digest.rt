@@ -19,23 +19,21 @@ struct Sums {
     b: u32,
 }
 
-fn add_half(d: Sums, half: u64) -> Sums {
+fn add_half(sums: Sums, half: u64) -> Sums {
     let h = half % 0x1_0000_0000;
     Sums {
-        a: ((d.a as u64 * A + h) % M) as u32,
-        b: ((d.b as u64 * B + h) % M) as u32,
+        a: ((u64::from(sums.a) * A + h) % M) as u32,
+        b: ((u64::from(sums.b) * B + h) % M) as u32,
     }
 }
 
-fn add_number(d: Sums, x: f64) -> Sums {
+fn add_number(sums: Sums, x: f64) -> Sums {
     let bits = bits_of(x);
-    add_half(add_half(d, bits / 0x1_0000_0000), bits)
+    add_half(add_half(sums, bits >> 32), bits)
 }
 
 pub(crate) fn digest(numbers: &[f64]) -> u64 {
-    let mut d = Sums { a: 0, b: 0 };
-    for i in 0..numbers.len() {
-        d = add_number(d, numbers[i]);
-    }
-    d.a as u64 * 0x1_0000_0000 + d.b as u64
+    let zero = Sums { a: 0, b: 0 };
+    let sums = numbers.iter().fold(zero, |sums, x| add_number(sums, *x));
+    u64::from(sums.a) << 32 | u64::from(sums.b)
 }

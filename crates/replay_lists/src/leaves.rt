@@ -1,44 +1,29 @@
 // Functions below the calls whose bits no call shows, against the original's.
-ghost use Rattle.std.specs.Prelude.{◌≤◌, length};
-
-use crate::tally::{Tally, unread};
+use crate::numbers::{bits_at, numbers_at};
+use crate::tally::{OfValues, Tally, unread};
 use drifters_adjoint::adjoint::integrated_adjoint;
-use drifters_core::math::vec3::{Vec3, from_vec3};
-use drifters_eqf::filter::Answer;
+use drifters_core::math::vec3::Vec3;
 use drifters_lie::lie::Se3Tangent;
-use drifters_matrix::math::shapes::Mat21;
-use little_endian::bits::{bits_of, numbers_of};
-use little_endian::bytes::u64s_at;
-use sheet_file::read_file;
-use std::io;
+use drifters_matrix::math::matrix::{Mat3, Mat21, Vector3};
+use little_endian::bits::bits_of;
 use std::rt::Files;
+use std::{fs, io};
 
-// The functions, each of at most six numbers, with at most 36 numbers as its result.
-#[derive(Clone, Copy)]
-enum Leaf {
-    IntegratedAdjoint,
-    MulTranspose,
-    Amax,
-    MatrixAmax,
-}
-
-// The bytes of six numbers, and of the 36 of a result after them.
+// A record has six numbers, and the 36 of a result after them.
 const NUMBERS_BYTES: usize = 8 * 6;
 
 const RECORD_BYTES: usize = NUMBERS_BYTES + 8 * 36;
 
-// The most records of a file.
-const MOST_RECORDS: usize = 64;
+// The most bytes of a file: 64 records.
+const MOST_BYTES: usize = RECORD_BYTES * 64;
 
-// The product of two vectors, one of them transposed.
+// The product of two vectors, one of them transposed. The places that a result does not fill are 0.
 fn mul_transpose(v: [f64; 6]) -> [f64; 36] {
-    let a = from_vec3(Vec3::new(v[0], v[1], v[2]));
-    let b = from_vec3(Vec3::new(v[3], v[4], v[5]));
-    let m = a.mul_transpose(b).data;
+    let a = Vector3::from(Vec3::new(v[0], v[1], v[2]));
+    let b = Vector3::from(Vec3::new(v[3], v[4], v[5]));
     let mut out = [0.0; 36];
-    for i in 0..9 {
-        out[i] = m[i];
-    }
+    let m: Mat3 = a.mul_transpose(&b);
+    out[..9].copy_from_slice(&m.data);
     out
 }
 
@@ -49,118 +34,68 @@ fn single(x: f64) -> [f64; 36] {
     out
 }
 
+// The largest magnitude in a vector of the first three numbers.
+fn amax(v: [f64; 6]) -> [f64; 36] {
+    single(Vec3::new(v[0], v[1], v[2]).amax())
+}
+
 // The largest magnitude in a matrix that begins with six numbers; the rest are 0.
-fn matrix_amax(v: [f64; 6]) -> f64 {
+fn matrix_amax(v: [f64; 6]) -> [f64; 36] {
     let mut data = [0.0; 441];
-    for i in 0..6 {
-        data[i] = v[i];
-    }
+    data[..6].copy_from_slice(&v);
     let m = Mat21 { data };
-    m.amax()
+    single(m.amax())
 }
 
-// The function's result at six numbers; the places that it does not fill are 0.
-fn value(leaf: Leaf, v: [f64; 6]) -> [f64; 36] {
-    match leaf {
-        Leaf::IntegratedAdjoint => integrated_adjoint(Se3Tangent::from_array(v)).data,
-        Leaf::MulTranspose => mul_transpose(v),
-        Leaf::Amax => single(Vec3::new(v[0], v[1], v[2]).amax()),
-        Leaf::MatrixAmax => single(matrix_amax(v)),
-    }
-}
-
-// The 36 bit patterns from a place on.
-fn stored_at(s: &[u8], at: usize) -> [u64; 36] {
-    let mut stored = [0u64; 36];
-    u64s_at(s, at, &mut stored);
-    stored
-}
-
-// Whether the bits from a place on are those of the numbers.
-fn are_stored(numbers: [f64; 36], s: &[u8], at: usize) -> bool {
-    let stored = stored_at(s, at);
-    let mut same = true;
-    for i in 0..36 {
-        same = same & (bits_of(numbers[i]) == stored[i]);
-    }
-    same
-}
-
-// Whether the function gives the result that is stored beside the six numbers from a place on.
-fn agrees(leaf: Leaf, s: &[u8], at: usize) -> bool
-    requires { at ≤ length s.now }
+// Counts the records of a function in whose file it gives other bits than are stored beside its numbers.
+fn run_leaf<F: Fn([f64; 6]) -> [f64; 36]>(leaf: F, s: &[u8]) -> Tally
+    requires { F.IsAlwaysCallable leaf }
 {
-    let mut bits = [0u64; 6];
-    u64s_at(s, at, &mut bits);
-    let mut v = [0.0; 6];
-    numbers_of(&bits, &mut v);
-    are_stored(value(leaf, v), s, at + NUMBERS_BYTES)
-}
-
-fn run_leaf(leaf: Leaf, s: &[u8]) -> Tally {
-    let mut t = Tally::none();
-    for i in 0..s.len() / RECORD_BYTES {
-        t = t.count(Answer::Fine, agrees(leaf, s, RECORD_BYTES * i));
+    let mut tally = Tally::default();
+    for record in s.chunks_exact(RECORD_BYTES) {
+        let stored: [u64; 36] = bits_at(record, NUMBERS_BYTES);
+        tally.count(Ok(None), leaf(numbers_at(record, 0)).map(bits_of) == stored);
     }
-    t
+    tally
 }
 
 // Replays the records of a file.
-fn replay_leaf<R: Files + Print>(rt: &R, name: &[u8], leaf: Leaf, path: &[u8]) -> io::Result<()> {
-    let mut s = [0u8; RECORD_BYTES * MOST_RECORDS];
-    let n = read_file(rt, path, &mut s);
-    if n == 0 {
-        unread(rt, name)?;
-        return Ok(());
+fn replay_leaf<R: Files + Print + Alloc, F: Fn([f64; 6]) -> [f64; 36]>(
+    rt: &R,
+    name: &str,
+    path: &str,
+    leaf: F,
+) -> io::Result<()>
+    requires { F.IsAlwaysCallable leaf }
+{
+    match fs::read(rt, path) {
+        Ok(s) if !s.is_empty() && s.len() <= MOST_BYTES => {
+            let tally = OfValues(run_leaf(leaf, &s));
+            println!(rt; "{name}: {tally}")
+        }
+        _ => {
+            unread(rt, name)?;
+            Ok(())
+        }
     }
-    run_leaf(leaf, &s[..n]).print_values(rt, name)
-}
-
-fn replay_adjoints<R: Files + Print>(rt: &R) -> io::Result<()> {
-    replay_leaf(
-        rt,
-        b"integrated_adjoint",
-        Leaf::IntegratedAdjoint,
-        b"adjoint.bin",
-    )?;
-    replay_leaf(
-        rt,
-        b"integrated_adjoint, amax 2^60",
-        Leaf::IntegratedAdjoint,
-        b"adjoint60.bin",
-    )?;
-    replay_leaf(
-        rt,
-        b"integrated_adjoint, amax 2^61",
-        Leaf::IntegratedAdjoint,
-        b"adjoint61.bin",
-    )?;
-    replay_leaf(
-        rt,
-        b"integrated_adjoint, terms",
-        Leaf::IntegratedAdjoint,
-        b"adjoint_terms.bin",
-    )
-}
-
-fn replay_other_leaves<R: Files + Print>(rt: &R) -> io::Result<()> {
-    replay_leaf(
-        rt,
-        b"mul_transpose",
-        Leaf::MulTranspose,
-        b"mul_transpose.bin",
-    )?;
-    replay_leaf(rt, b"amax", Leaf::Amax, b"amax.bin")?;
-    replay_leaf(
-        rt,
-        b"amax of a matrix",
-        Leaf::MatrixAmax,
-        b"matrix_amax.bin",
-    )
 }
 
 // Replays every file of values.
-pub fn replay_leaves<R: Files + Print>(rt: &R) -> io::Result<()> {
-    replay_adjoints(rt)?;
-    replay_other_leaves(rt)
+pub fn replay_leaves<R: Files + Print + Alloc>(rt: &R) -> io::Result<()> {
+    for (name, path) in [
+        ("integrated_adjoint", "adjoint.bin"),
+        ("integrated_adjoint, amax 2^60", "adjoint60.bin"),
+        ("integrated_adjoint, amax 2^61", "adjoint61.bin"),
+        ("integrated_adjoint, terms", "adjoint_terms.bin"),
+    ] {
+        replay_leaf(
+            rt,
+            name,
+            path,
+            |v| integrated_adjoint(Se3Tangent::from_array(v)).data,
+        )?;
+    }
+    replay_leaf(rt, "mul_transpose", "mul_transpose.bin", mul_transpose)?;
+    replay_leaf(rt, "amax", "amax.bin", amax)?;
+    replay_leaf(rt, "amax of a matrix", "matrix_amax.bin", matrix_amax)
 }

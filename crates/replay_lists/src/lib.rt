@@ -6,5 +6,6 @@ pub mod calls;
 pub mod compasses;
 mod digest;
 pub mod leaves;
+mod numbers;
 pub mod starts;
 pub mod tally;

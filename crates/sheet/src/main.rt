@@ -6,10 +6,11 @@ use call_sheet::sheet::MOST_BYTES;
 use sheet_file::read_file;
 use std::io;
 
+// A file that cannot be read is run as an empty one, which is no sheet.
 fn main(rt: HostRuntime) -> io::Result<()> {
-    let mut bytes = [0u8; MOST_BYTES];
-    let n = read_file(&rt, b"sheet.bin", &mut bytes);
-    let mut text = [0u8; MOST_TEXT];
+    let mut bytes = [0; MOST_BYTES];
+    let n = read_file(&rt, b"sheet.bin", &mut bytes).unwrap_or(0);
+    let mut text = [0; MOST_TEXT];
     let length = sheet_text(&bytes[..n], &mut text);
     rt.write_all(&text[..length])
 }

@@ -1,12 +1,12 @@
 -- How many of the bytes that were read of a file count. Definitions only.
-use Rattle.std.specs.Prelude.{◌≡◌, ℕ, zero, suc, ◌≤◌, ℤ, pos, negsuc, List, length, take}
+use Rattle.std.specs.Prelude.{ℕ, zero, suc, Option, Some, None, Result, Ok, Err}
 
--- n bytes where one further read answered 0, the end of the file; none where it gave a byte more or failed
-unfoldable pub counted : ℕ → ℤ → ℕ
-counted n (pos zero) = n
-counted n (pos (suc k)) = 0
-counted n (negsuc k) = 0
+-- n bytes where one further read gave none, at the end of the file; nothing where it gave a byte more
+abbrev pub counted_by : ℕ → ℕ → Option ℕ
+counted_by n zero = Some n
+counted_by n (suc k) = None
 
--- `&xs[..n]` is in bounds and has n bytes. The second part follows from the first, and spares a caller's `&xs[..n]` a proof file.
-abbrev pub IsPrefixLen : ℕ → List ℕ → Type 0
-IsPrefixLen n xs = (n ≤ length xs) × (n ≡ length (take n xs))
+-- the same, and nothing where the further read failed
+abbrev pub counted : {E : Type 0} → ℕ → Result ℕ E → Option ℕ
+counted n (Ok more) = counted_by n more
+counted n (Err e) = None

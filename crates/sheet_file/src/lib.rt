@@ -1,81 +1,69 @@
 // Reads a whole file into a lent run of bytes.
 #![tactic(auto)]
 
-ghost use Rattle.std.specs.Prelude.{◌≡◌, ◌<◌, take, pos, IfSome};
-ghost use Rattle.std.specs.Io.KnownBytes.{Consumes, IsAtEnd};
-ghost use Rattle.sheet_file.specs.Counted.{counted, IsPrefixLen};
+ghost use Rattle.std.specs.Prelude.{◌≡◌, take, IfOk, IfSome};
+ghost use Rattle.std.specs.Io.{ReadsAtMost};
+ghost use Rattle.std.specs.Io.KnownBytes.{Consumes};
+ghost use Rattle.std.specs.Result.{result_ok};
+ghost use Rattle.sheet_file.specs.Counted.{counted};
 
-use std::fs;
-use std::io::Read;
+use std::io::{ErrorKind, Read};
 use std::rt::Files;
+use std::{fs, io};
 
 // How many of n bytes that were read count, by what one further read answered. 0 is the end of the file: all do. A byte more or a failure
 // means that they are not the whole file: none does.
-pub fn counted(n: usize, rest: isize) -> usize
-    ensures { result ≡ counted n rest }
+pub fn counted(n: usize, rest: io::Result<usize>) -> io::Result<usize>
+    ensures { result_ok result ≡ counted n rest }
 {
-    if rest == 0 { n } else { 0 }
+    match rest? {
+        0 => Ok(n),
+        _ => Err(io::Error::from(ErrorKind::FileTooLarge)),
+    }
 }
 
-// Reads until `bytes` is full, the reader ends or a read fails. Answers how many bytes it put at the front of `bytes`.
-fn read_full<R: Read>(reader: &mut R, bytes: &mut [u8]) -> usize
-    ensures in_bounds { IsPrefixLen result bytes.new }
-    ensures given { Consumes (R.remaining reader.old) (R.remaining reader.new) (take result bytes.new) }
+// Reads until `bytes` is full or the reader ends. Answers how many bytes it put at the front of `bytes`. A `while`: each read gives as much as it likes.
+fn read_full<R: Read>(reader: &mut R, bytes: &mut [u8]) -> io::Result<usize>
+    ensures in_bounds { ReadsAtMost result bytes.new }
+    ensures given { IfOk result (λ n. Consumes (R.remaining reader.old) (R.remaining reader.new) (take n bytes.new)) }
 {
     let mut done = 0;
     while done < bytes.len() {
-        match reader.read(&mut bytes[done..]) {
-            Ok(0) | Err(_) => break,
-            Ok(n) => done += n,
+        match reader.read(&mut bytes[done..])? {
+            0 => break,
+            n => done += n,
         }
     }
-    done
+    Ok(done)
 }
 
-// What one further read answers: how many bytes it gave, 1 at the most, or -1 where it failed.
-fn read_more<R: Read>(reader: &mut R) -> isize
-    ensures { result ≡ pos 0 → IsAtEnd (R.remaining reader.old) }
+// A reader's bytes at the front of `bytes`; answers how many there are. It fails where a read does, or where there are more than `bytes` holds.
+pub fn read_whole<R: Read>(reader: &mut R, bytes: &mut [u8]) -> io::Result<usize>
+    ensures in_bounds { ReadsAtMost result bytes.new }
+    ensures whole { IfOk result (λ n. IfSome (R.remaining reader.old) (λ all. take n bytes.new ≡ all)) }
 {
-    let mut more = [0u8; 1];
-    match reader.read(&mut more) {
-        Ok(n) => n as isize,
-        Err(_) => -1,
-    }
+    let n = read_full(reader, bytes)?;
+    counted(n, reader.read(&mut [0u8; 1]))
 }
 
-// A reader's bytes at the front of `bytes`; answers how many there are. 0 where they cannot be read to their end, or are more than `bytes` holds.
-pub fn read_whole<R: Read>(reader: &mut R, bytes: &mut [u8]) -> usize
-    ensures in_bounds { IsPrefixLen result bytes.new }
-    ensures whole { 0 < result → IfSome (R.remaining reader.old) (λ all. take result bytes.new ≡ all) }
+// The file's bytes at the front of `bytes`; answers how many there are. It fails where the file cannot be read to its end, or is longer than `bytes`.
+// The library opens a path by its text, so a path that is no UTF-8 is of no file.
+pub fn read_file<R: Files>(rt: &R, path: &[u8], bytes: &mut [u8]) -> io::Result<usize>
+    ensures { ReadsAtMost result bytes.new }
 {
-    let n = read_full(reader, bytes);
-    let rest = read_more(reader);
-    counted(n, rest)
-}
-
-// The file's bytes at the front of `bytes`; answers how many there are. 0 where the file cannot be read to its end, or is longer than `bytes`. The
-// library opens a path by its text, so a path that is no UTF-8 is of no file.
-pub fn read_file<R: Files>(rt: &R, path: &[u8], bytes: &mut [u8]) -> usize
-    ensures { IsPrefixLen result bytes.new }
-{
-    let Ok(path) = str::from_utf8(path) else {
-        return 0;
-    };
-    let Ok(mut file) = fs::open(rt, path) else {
-        return 0;
-    };
+    let path = str::from_utf8(path).map_err(|_| io::Error::from(ErrorKind::NotFound))?;
+    let mut file = fs::open(rt, path)?;
     read_whole(&mut file, bytes)
 }
 
 #[cfg(test)]
 mod tests {
     use super::*;
-    use std::io;
 
     // How many of the bytes `abc` count in a run of `room` bytes.
     fn counted_of_three(room: &mut [u8]) -> usize {
         let mut reader: &[u8] = b"abc";
-        read_whole(&mut reader, room)
+        read_whole(&mut reader, room).unwrap_or(0)
     }
 
     #[test]
@@ -94,7 +82,7 @@ mod tests {
     impl Read for Failing {
         fn read(&mut self, buf: &mut [u8]) -> io::Result<usize> {
             if self.given || buf.is_empty() {
-                return Err(io::Error::from(io::ErrorKind::Other));
+                return Err(io::Error::from(ErrorKind::Other));
             }
             self.given = true;
             buf[0] = 1;
@@ -105,8 +93,8 @@ mod tests {
     #[test]
     fn counts_nothing_where_a_later_read_fails(rt: HostRuntime) {
         let mut reader = Failing { given: false };
-        assert_eq!(rt; read_whole(&mut reader, &mut [0u8; 4]), 0);
+        assert_eq!(rt; read_whole(&mut reader, &mut [0u8; 4]).unwrap_or(0), 0);
         let mut reader = Failing { given: false };
-        assert_eq!(rt; read_whole(&mut reader, &mut [0u8; 1]), 0);
+        assert_eq!(rt; read_whole(&mut reader, &mut [0u8; 1]).unwrap_or(0), 0);
     }
 }

@@ -1,9 +1,10 @@
-// Port of math/vec3.rs: three-element column vectors, by value. The operators are named functions.
+// Port of math/vec3.rs: three-element column vectors, by value. The operators are named functions, as document 01 wants them (docs/DECISIONS.md), and
+// `from_array` and `to_array` have the original's names.
 ghost use Rattle.std.specs.Prelude.{◌≡◌};
 ghost use Rattle.drifters_core.specs.Vec3.{vec3, splat, from_array, to_array, dot, cross, norm, norm_squared, normalized, component_mul, component_div, squared, skew, to_diag, finite_vec3, amax_vec3, add_vec3, sub_vec3, neg_vec3, mul_vec3, div_vec3, mul_mat3_vec3};
 
-use drifters_matrix::math::matrix::larger;
-use drifters_matrix::math::shapes::{Mat3, Vector3};
+use drifters_matrix::math::matrix::{Mat3, Vector3};
+use drifters_matrix::math::runs::larger;
 use drifters_real::math::real::{abs, is_finite, sqrt};
 
 #[derive(Clone, Copy)]
@@ -11,13 +12,6 @@ pub struct Vec3 {
     pub x: f64,
     pub y: f64,
     pub z: f64,
-}
-
-// A vector over its norm, or that there is none.
-#[derive(Clone, Copy)]
-pub enum Normalized {
-    Unit(Vec3),
-    None,
 }
 
 impl Vec3 {
@@ -85,15 +79,11 @@ impl Vec3 {
     }
 
     // None where the norm is not above 0, which the original answers by the zero vector: that is no direction.
-    pub fn normalized(self) -> Normalized
+    pub fn normalized(self) -> Option<Vec3>
         ensures { result ≡ normalized self }
     {
         let n = self.norm();
-        if n > 0.0 {
-            Normalized::Unit(self.div(n))
-        } else {
-            Normalized::None
-        }
+        if n > 0.0 { Some(self.div(n)) } else { None }
     }
 
     pub fn component_mul(self, rhs: Vec3) -> Vec3
@@ -205,8 +195,7 @@ impl Vec3 {
     }
 }
 
-// The two functions below are `Mul<Vec3> for Mat3` and `From<Vec3> for Vector<3>` of the original's matrix.rs. They stand here so that
-// matrices do not know vectors.
+// What follows stands in the original's matrix.rs, the product as `Mul<Vec3> for Mat3`. It stands here so that matrices do not know vectors.
 
 // The matrix times a vector.
 pub fn mul_vec3(m: Mat3, v: Vec3) -> Vec3
@@ -221,10 +210,12 @@ pub fn mul_vec3(m: Mat3, v: Vec3) -> Vec3
 }
 
 // The vector as a column.
-pub fn from_vec3(v: Vec3) -> Vector3
-    ensures { result.data ≡ to_array v }
-{
-    Vector3 {
-        data: [v.x, v.y, v.z],
+impl From<Vec3> for Vector3 {
+    ghost from_gives = { λ v m. m.«data» ≡ to_array v };
+
+    fn from(v: Vec3) -> Vector3 {
+        Vector3 {
+            data: [v.x, v.y, v.z],
+        }
     }
 }

@@ -10,18 +10,15 @@ use lib.ListN.{length}
 use lib.Ieee.{Float}
 use Rattle.drifters_real.specs.Real.{is_finite}
 use Rattle.drifters_matrix.specs.Matrix.{all_finite}
-use Rattle.drifters_eqf.specs.Answer.{range_refusal, null_refusal, number_of, values_of}
+use Rattle.drifters_eqf.specs.Answer.{Answer, Nis, Fine, Refused, range_refusal, null_refusal, number_of, values_of}
 use Rattle.drifters_cholesky.specs.Cholesky.{definite, entries_of}
 use Rattle.drifters_gcu.specs.Gcu.{nis}
-use Rattle.drifters_eqf.specs.Filter.{turn_fits, refuse, nav_state, half_step, full_step, propagated, propagate, raw_factor, inflated_factor, gain, correction, step, corrected, applied, update}
+use Rattle.drifters_eqf.specs.Filter.{Answered, turn_fits, refuse, nav_state, half_step, full_step, propagated, propagate, raw_factor, inflated_factor, gain, correction, step, corrected, applied, update}
 use Rattle.drifters_entry.specs.Layout.{filter_length, start_length, from_run, to_run, state_to_run}
 use Rattle.drifters_kind.specs.Kind.{form_of, call_length, written_length}
 use Rattle.drifters_entry.specs.Entry.{Request, refusal, propagation, measurement, estimate, request_of, Outcome, outcome_of, performed, refused, finite_outcome, if_finite, range_checked_as, range_checked, lengths_fit, call, started, start}
 use Rattle.drifters_demands.specs.Demands.{Check, unless, first_of, has_null, later_checks, checks, start_checks, Checked, accepted_outcome}
 use Rattle.drifters_eqf.specs.declared.filter.EqFilter.{EqFilter}
-use Rattle.drifters_eqf.specs.declared.filter.Answer.{Answer}
-use Rattle.drifters_eqf.specs.declared.filter.Answer.TheVariants.{Nis, Fine, Refused}
-use Rattle.drifters_eqf.specs.declared.filter.Answered.{Answered}
 use Rattle.drifters_kind.specs.declared.kind.Kind.{Kind}
 use Rattle.drifters_entry.proofs.KindLaws.{written_by, kind_laws}
 use Rattle.drifters_entry.proofs.Calls.{no_numbers}

@@ -8,7 +8,7 @@ use lib.ListN.{length, get_or}
 use lib.Ieee.{Float, nan, inf, fin, is_nan}
 use Rattle.drifters_kind.specs.Kind.{written_length}
 use Rattle.drifters_kind.specs.declared.kind.Kind.{Kind}
-use Rattle.drifters_eqf.specs.declared.filter.Answer.{Answer}
+use Rattle.drifters_eqf.specs.Answer.{Answer}
 use Rattle.drifters_demands.specs.Like.{unsigned_zero, signed}
 use Rattle.drifters_demands.specs.Turn.{turned}
 use Rattle.drifters_demands.specs.Demands.{EqualNumber, same_bits, both_zeros, both_nan, Equal, EqualAnswer, both_ok, both_nis, both_refused}

@@ -9,13 +9,11 @@ use lib.Ieee.{Float}
 use Rattle.drifters_matrix.specs.Matrix.{all_finite}
 use Rattle.drifters_matrix.proofs.Matrix.Grid.{at_in}
 use Rattle.drifters_matrix.proofs.Matrix.Theorems.{mirrored}
-use Rattle.drifters_eqf.specs.Answer.{length_refusal, blank_refusal, turn_refusal, pivot_refusal, range_refusal, null_refusal, number_of}
+use Rattle.drifters_eqf.specs.Answer.{Answer, Nis, Fine, Refused, length_refusal, blank_refusal, turn_refusal, pivot_refusal, range_refusal, null_refusal, number_of}
 use Rattle.drifters_entry.specs.Layout.{from_run, to_run, SizedFilter}
 use Rattle.drifters_entry.specs.Entry.{Request, refusal, propagation, measurement, estimate, request_of, call}
 use Rattle.drifters_demands.specs.Demands.{Check, first_of, has_null, later_checks, checks, FiniteMirrored, NullCall, accepted_outcome, Demand1}
 use Rattle.drifters_eqf.specs.declared.filter.EqFilter.{EqFilter}
-use Rattle.drifters_eqf.specs.declared.filter.Answer.{Answer}
-use Rattle.drifters_eqf.specs.declared.filter.Answer.TheVariants.{Nis, Fine, Refused}
 use Rattle.drifters_kind.specs.declared.kind.Kind.{Kind}
 use Rattle.drifters_entry.proofs.KindLaws.{kind_laws}
 use Rattle.drifters_entry.proofs.RoundTrips.{length_to_run, sigma_at}

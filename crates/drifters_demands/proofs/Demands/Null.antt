@@ -9,6 +9,7 @@ use lib.IntN.{pos}
 use lib.ListN.{length}
 use lib.Ieee.{Float, nan, inf, fin, binary64, up, down, odd, units, round, sum, add, lt, eq}
 use lib.Ieee.Fits.{round_is}
+use Rattle.std.specs.Prelude.{Some, None}
 use Rattle.drifters_real.specs.Scalar.{◌⊕◌, ◌⊗◌, plus_zero}
 use Rattle.drifters_real.specs.Real.{sqrt, sqrt_units, is_finite}
 use Rattle.drifters_real.proofs.Real.Zeros.{add_fin, mul_fin, plus_zero_is}
@@ -16,7 +17,6 @@ use Rattle.drifters_matrix.specs.Matrix.{all_finite}
 use Rattle.drifters_matrix.proofs.Matrix.Skips.{finite_at}
 use Rattle.drifters_core.specs.Vec3.{dot, norm_squared, norm, div_vec3, normalized}
 use Rattle.drifters_core.specs.declared.math.vec3.Vec3.{Vec3}
-use Rattle.drifters_core.specs.declared.math.vec3.Normalized.TheVariants as normalizedTo
 use Rattle.drifters_lie.specs.Lie.{vec3_at}
 use Rattle.drifters_symmetry.specs.declared.group.Symmetry.{Symmetry}
 use Rattle.drifters_eqf.specs.Answer.{null_refusal}
@@ -103,11 +103,11 @@ unfolding norm norm_squared dot
 plus_norm v h = plus_sqrt _ (plus_add _ _ (plus_add _ _ (plus_square v.x h.x) (plus_square v.y h.y)) (plus_square v.z h.z))
 
 -- a norm that is not above 0 is 0
-normalized_by : (v : Vec3) → FiniteVec3 v → normalized v ≡ cond (norm_is_zero v) normalizedTo.None (normalizedTo.Unit (div_vec3 v (norm v)))
+normalized_by : (v : Vec3) → FiniteVec3 v → normalized v ≡ cond (norm_is_zero v) None (Some (div_vec3 v (norm v)))
 unfolding normalized
 normalized_by v h = rw (plus_above (norm v) (plus_norm v h)) (turned (norm_is_zero v))
   where
-    turned : (b : Bool) → cond (not b) (normalizedTo.Unit (div_vec3 v (norm v))) normalizedTo.None ≡ cond b normalizedTo.None (normalizedTo.Unit (div_vec3 v (norm v)))
+    turned : (b : Bool) → cond (not b) (Some (div_vec3 v (norm v))) None ≡ cond b None (Some (div_vec3 v (norm v)))
     turned true = refl
     turned false = refl
 
@@ -125,7 +125,7 @@ AsksBy true r = r ≡ refusal null_refusal
 AsksBy false r = Asks r
 
 by_units : (a b : Bool) (x : Symmetry) (u o : Vec3) (noise : List Float) (alpha : Float)
-    → AsksBy (a || b) (direction_request (measured_units x (cond a normalizedTo.None (normalizedTo.Unit u)) (cond b normalizedTo.None (normalizedTo.Unit o))) noise alpha)
+    → AsksBy (a || b) (direction_request (measured_units x (cond a None (Some u)) (cond b None (Some o))) noise alpha)
 by_units true true x u o noise alpha = refl
 by_units true false x u o noise alpha = refl
 by_units false true x u o noise alpha = refl

@@ -3,7 +3,7 @@
 use Prim.Native.Nat.{ℕ}
 use mathlib.Core.Path.{◌≡◌, ap}
 use mathlib.Core.List.{List, map}
-use mathlib.Core.Option.{some}
+use Rattle.std.specs.Prelude.{Some}
 use Rattle.drifters_entry.specs.Log.{log_of}
 use Rattle.call_sheet.specs.Sheet.{Sheet, read_sheet}
 use Rattle.call_sheet.specs.Text.{numbers_of, call_of, lines_text, text_of, sheet_text}
@@ -12,7 +12,7 @@ use Rattle.drifters_demands.specs.Demands.{Demand2}
 use Rattle.drifters_demands.proofs.Demands.Decision.{decision_accepted, call_decision, start_decision}
 
 -- a sheet prints the lines of its log
-sheet_printed : (s : List ℕ) (sheet : Sheet) → read_sheet s ≡ some sheet
+sheet_printed : (s : List ℕ) (sheet : Sheet) → read_sheet s ≡ Some sheet
     → sheet_text s ≡ lines_text 1 (log_of (numbers_of sheet.filter) (map call_of sheet.calls)).entries
 unfolding sheet_text
 sheet_printed s sheet h = ap text_of h

@@ -4,12 +4,12 @@ use native.Mathlib.Omega.{arith}
 use mathlib.Core.Path.{◌≡◌, refl, sym, ap, ap₂, ◌∙◌, subst, subst₂}
 use mathlib.Core.Bool.{Bool, true, false, ◌&&◌, and-eq-true_iff}
 use mathlib.Core.List.{List}
-use mathlib.Core.Option.{Option}
 use borrow.Author.Tests.{eqb-true}
 use lib.Dec.{eqb, lit<}
 use lib.ListN.{length, take, drop, length-replicate, get_or-replicate}
 use lib.Seq.{get_or-take, get_or-drop, drop-drop}
 use lib.Ieee.{Float, nan}
+use Rattle.std.specs.Prelude.{Option}
 use Rattle.drifters_real.specs.Scalar.{plus_zero}
 use Rattle.drifters_matrix.specs.Matrix.{all_finite, zeros}
 use Rattle.drifters_demands.specs.Like.{Like, Signs, axis, LikeList, LikeVec3, LikeMatrix, no_turn}
@@ -17,9 +17,9 @@ use Rattle.drifters_demands.proofs.Signs.Sign.{not-not}
 use Rattle.drifters_demands.proofs.Signs.Like.{like_as, like_plus_zero, cond_keeps}
 use Rattle.drifters_demands.proofs.Signs.Real.{like_is_finite}
 use Rattle.drifters_demands.proofs.Signs.Matrix.{like_all_finite_list}
-use Rattle.drifters_eqf.specs.Answer.{length_refusal, blank_refusal, range_refusal, values_of}
+use Rattle.drifters_eqf.specs.Answer.{Answer, length_refusal, blank_refusal, range_refusal, values_of}
 use Rattle.drifters_lie.specs.Lie.{vec3_at}
-use Rattle.drifters_eqf.specs.Filter.{Measurement}
+use Rattle.drifters_eqf.specs.Filter.{Answered, Measurement}
 use Rattle.drifters_covariance.specs.Covariance.{input_at}
 use Rattle.drifters_entry.specs.Layout.{filter_length, part, from_run, to_run, state_to_run, SizedFilter, SizedState}
 use Rattle.drifters_kind.specs.Kind.{form_of, call_length, written_length}
@@ -27,8 +27,6 @@ use Rattle.drifters_entry.specs.Entry.{Request, process_noise_at, direction_requ
 use Rattle.drifters_demands.specs.Turn.{plain, then_signs, matrix_signs, noise_signs, filter_signs, call_signs, state_signs}
 use Rattle.drifters_symmetry.specs.declared.group.State.{State as StateRecord}
 use Rattle.drifters_eqf.specs.declared.filter.EqFilter.{EqFilter}
-use Rattle.drifters_eqf.specs.declared.filter.Answer.{Answer}
-use Rattle.drifters_eqf.specs.declared.filter.Answered.{Answered}
 use Rattle.drifters_kind.specs.declared.kind.Kind.{Kind}
 use Rattle.drifters_kind.specs.declared.kind.Kind.TheVariants.{Propagate, Position, Velocity, Direction, General, State, Scalar}
 use Rattle.drifters_entry.proofs.RoundTrips.{round_trips, length_to_run, length_state_to_run, sized_from_run}

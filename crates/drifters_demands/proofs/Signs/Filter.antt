@@ -5,10 +5,10 @@ use mathlib.Core.List.{List}
 use Prim.Native.Nat.{ℕ}
 use lib.ListN.{get_or}
 use lib.Ieee.{Float, nan, unlike}
+use Rattle.std.specs.Prelude.{Option}
 use Rattle.drifters_matrix.specs.Matrix.{matrix}
 use Rattle.drifters_demands.specs.Like.{Like, Signs, axis, LikeList, LikeVec3, LikeMatrix, no_turn}
 use Rattle.drifters_core.specs.declared.math.vec3.Vec3.{Vec3}
-use Rattle.drifters_core.specs.declared.math.vec3.Normalized.{Normalized}
 use Rattle.drifters_demands.proofs.Signs.Sign.{unlike_same, unlike_false, axis_add}
 use Rattle.drifters_demands.proofs.Signs.Like.{cond_keeps, like_as, like_refl}
 use Rattle.drifters_demands.proofs.Signs.Ops.{like_mul}
@@ -241,7 +241,7 @@ module _ {s b m : Signs} {x x' : Symmetry} (X : LikeSymmetry s b s m x x') where
       let transported = like_transported_velocity X k in
       record { output = like_velocity_output_matrix h transported (like_mul_mat3_vec3 X.c.rotation k); innovation = like_to_array (like_sub_vec3 transported h) }
 
-  like_measured_units : {u u' o o' : Normalized} → LikeNormalized (axis m) u u' → LikeNormalized (axis s) o o'
+  like_measured_units : {u u' o o' : Option Vec3} → LikeNormalized (axis m) u u' → LikeNormalized (axis s) o o'
       → LikeMeasured s (measured_units x u o) (measured_units x' u' o')
   like_measured_units (both_units unit) (both_units origin) =
       let transported = like_transported_direction X unit in

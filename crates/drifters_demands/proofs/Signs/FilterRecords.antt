@@ -2,19 +2,17 @@
 -- body's, m the magnetometer's. Assumes nothing.
 use mathlib.Core.Bool.{Bool, false}
 use mathlib.Core.List.{List}
-use mathlib.Core.Option.{Option, none, some}
 use Prim.Native.Nat.{ℕ}
 use lib.Ieee.{Float}
+use Rattle.std.specs.Prelude.{Option, Some, None}
 use Rattle.drifters_demands.specs.Like.{Like, Signs, axis, LikeList, LikeVec3, LikeMatrix, no_turn}
 use Rattle.drifters_demands.proofs.Signs.GroupRecords.{LikeSymmetry, LikeInput}
-use Rattle.drifters_eqf.specs.Filter.{Measurement}
+use Rattle.drifters_eqf.specs.Filter.{Answered, Measurement}
 use Rattle.drifters_entry.specs.Entry.{Request, refusal, propagation, measurement, estimate}
 use Rattle.drifters_symmetry.specs.declared.lift.Input.{Input}
 use Rattle.drifters_covariance.specs.declared.covariance.ProcessNoise.{ProcessNoise}
 use Rattle.drifters_eqf.specs.declared.filter.EqFilter.{EqFilter}
-use Rattle.drifters_eqf.specs.declared.filter.Answer.{Answer}
-use Rattle.drifters_eqf.specs.declared.filter.Answer.TheVariants.{Nis, Fine, Refused}
-use Rattle.drifters_eqf.specs.declared.filter.Answered.{Answered}
+use Rattle.drifters_eqf.specs.Answer.{Answer, Nis, Fine, Refused}
 
 -- densities take no sign
 pub record LikeProcessNoise (q r : ProcessNoise) : Type 0 where
@@ -48,8 +46,8 @@ pub record LikeMeasurement (σ : ℕ → Bool) (s : Signs) (w : ℕ) (z y : Meas
 
 -- what two directions measure: both three numbers, or both nothing
 pub data LikeMeasured (s : Signs) : Option Measurement → Option Measurement → Type 0 where
-  both_measured : {z y : Measurement} → LikeMeasurement (axis s) s 3 z y → LikeMeasured s (some z) (some y)
-  both_unmeasured : LikeMeasured s none none
+  both_measured : {z y : Measurement} → LikeMeasurement (axis s) s 3 z y → LikeMeasured s (Some z) (Some y)
+  both_unmeasured : LikeMeasured s None None
 
 -- what two calls ask: the same refusal of its own; a propagation, the body not turned; a measurement of w numbers, whatever signs they take; the estimate
 pub data LikeRequest (s : Signs) : Request → Request → Type 0 where

@@ -14,7 +14,7 @@ use Rattle.drifters_matrix.specs.Matrix.{set_block}
 use Rattle.drifters_core.specs.Vec3.{to_array, mul_mat3_vec3}
 use Rattle.drifters_demands.specs.Like.{Like, Signs, axis, LikeList, LikeVec3, LikeMatrix}
 use Rattle.drifters_core.specs.declared.math.vec3.Vec3.{Vec3}
-use Rattle.drifters_matrix.specs.declared.math.shapes.Mat3.{Mat3}
+use Rattle.drifters_matrix.specs.Shapes.{Mat3}
 use Rattle.drifters_demands.proofs.Signs.Sign.{axis_add}
 use Rattle.drifters_demands.proofs.Signs.Like.{cond_keeps, like_as, like_refl}
 use Rattle.drifters_demands.proofs.Signs.Ops.{like_add, like_sub, like_square, like_div_same, like_div_equal}

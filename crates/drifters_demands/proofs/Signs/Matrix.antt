@@ -17,7 +17,7 @@ use Rattle.drifters_core.specs.Vec3.{row_times, mul_mat3_vec3}
 use Rattle.drifters_cholesky.specs.Cholesky.{sub_terms}
 use Rattle.drifters_demands.specs.Like.{Like, LikeList, LikeVec3, LikeMatrix}
 use Rattle.drifters_core.specs.declared.math.vec3.Vec3.{Vec3}
-use Rattle.drifters_matrix.specs.declared.math.shapes.Mat3.{Mat3}
+use Rattle.drifters_matrix.specs.Shapes.{Mat3}
 use Rattle.drifters_matrix.proofs.Matrix.Tab.{get_d_tab}
 use Rattle.drifters_matrix.proofs.Matrix.Grid.{at_in, entry}
 use Rattle.drifters_demands.proofs.Signs.Sign.{unlike_comm, unlike_same, unlike_false, signs}

@@ -6,13 +6,12 @@ use mathlib.Core.Bool.{Bool, false}
 use lib.Dec.{lit<}
 use lib.ListN.{get_or}
 use lib.Ieee.{Float, nan, unlike}
+use Rattle.std.specs.Prelude.{Option, Some, None}
 use Rattle.drifters_real.specs.Scalar.{plus_zero}
 use Rattle.drifters_matrix.specs.Matrix.{at}
 use Rattle.drifters_core.specs.Vec3.{zero_vec3, to_array, dot, cross, norm_squared, norm, div_vec3, normalized, mat3, skew, amax_vec3, add_vec3, sub_vec3, neg_vec3, mul_vec3}
 use Rattle.drifters_demands.specs.Like.{Like, Signs, axis, LikeList, LikeVec3, LikeMatrix}
 use Rattle.drifters_core.specs.declared.math.vec3.Vec3.{Vec3}
-use Rattle.drifters_core.specs.declared.math.vec3.Normalized.{Normalized}
-use Rattle.drifters_core.specs.declared.math.vec3.Normalized.TheVariants.{Unit, None}
 use Rattle.drifters_demands.proofs.Signs.Sign.{unlike_same, unlike_false, axis_1_2, axis_2_1, axis_2_0, axis_0_2, axis_0_1, axis_1_0}
 use Rattle.drifters_demands.proofs.Signs.Like.{cond_keeps, like_as, like_refl, like_plus_zero, like_neg}
 use Rattle.drifters_demands.proofs.Signs.Ops.{like_add, like_sub, like_mul, like_mul_as, like_div_equal}
@@ -96,8 +95,8 @@ unfolding norm
 like_norm h = like_sqrt (like_norm_squared h)
 
 -- both normalised, or both not: a norm takes no sign
-pub data LikeNormalized (σ : ℕ → Bool) : Normalized → Normalized → Type 0 where
-  both_units : {v v' : Vec3} → LikeVec3 σ v v' → LikeNormalized σ (Unit v) (Unit v')
+pub data LikeNormalized (σ : ℕ → Bool) : Option Vec3 → Option Vec3 → Type 0 where
+  both_units : {v v' : Vec3} → LikeVec3 σ v v' → LikeNormalized σ (Some v) (Some v')
   both_none : LikeNormalized σ None None
 
 pub like_normalized : {σ : ℕ → Bool} {v v' : Vec3} → LikeVec3 σ v v' → LikeNormalized σ (normalized v) (normalized v')

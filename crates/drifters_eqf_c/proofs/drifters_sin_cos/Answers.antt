@@ -5,7 +5,7 @@ use Rattle.drifters_eqf_c.proofs.Coded.{sin_cos_refused, sin_cos_coded}
 use Rattle.drifters_eqf_c.proofs.drifters_sin_cos.Goals as goal
 
 pub returns-then-out-ne-SIN_COS_LENGTH : goal.returns-then-out-ne-SIN_COS_LENGTH
-returns-then-out-ne-SIN_COS_LENGTH c = sin_cos_refused _ _ c.if-out-ne-SIN_COS_LENGTH.true
+returns-then-out-ne-SIN_COS_LENGTH c = rw c.from.ensures (sin_cos_refused _ _ c.if-out-ne-SIN_COS_LENGTH.true)
 
 pub returns : goal.returns
 returns c =

@@ -1,6 +1,6 @@
 -- Terms of a product that change nothing: zeros among finite numbers, and the order of two factors. Assumes nothing.
 use mathlib.Core.Path.{◌≡◌, refl, sym, ap, ◌∙◌}
-use mathlib.Core.Bool.{Bool, true, false, not, ◌&&◌, cond, true≢false, and-eq-true_iff}
+use mathlib.Core.Bool.{Bool, true, false, ◌&&◌, cond, and-eq-true_iff}
 use mathlib.Core.List.{List, [], ◌∷◌}
 use mathlib.Core.Logic.{⊎_elim}
 use Prim.Native.Nat.{ℕ, zero, suc, ◌+◌, ◌*◌, ◌≤◌, ◌<◌}
@@ -25,12 +25,6 @@ unfolding all_finite
 finite_at [] k h p = absurd (not-suc-le-zero p)
 finite_at (x ∷ m) zero h p = ((and-eq-true_iff (is_finite x) (all_finite m)).0 h).0
 finite_at (x ∷ m) (suc k) h p = finite_at m k ((and-eq-true_iff (is_finite x) (all_finite m)).0 h).1 (le_of_suc-le-suc p)
-
--- two tests that did not fail
-pub both_pass : {x y p q : Bool} → x ≡ p → y ≡ q → not (x && y) ≡ false → (p ≡ true) × (q ≡ true)
-both_pass {x = true} {y = true} e f h = (sym e, sym f)
-both_pass {x = true} {y = false} e f h = absurd (true≢false h)
-both_pass {x = false} e f h = absurd (true≢false h)
 
 -- ---- a sum of products starts at +0.0
 pub summed : (skip : Bool) (f g : ℕ → Float) (n : ℕ) → Summed (sum_terms skip f g n)

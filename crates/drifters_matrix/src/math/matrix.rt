@@ -1,308 +1,292 @@
-// Port of math/matrix.rs, for all dimensions: a matrix is a run of its entries, row by row. shapes.rt has a record for each shape in use;
-// the factorisation is in drifters_cholesky. The loops of products carry the start of each row along, by addition: they multiply nothing
-// but two entries, and tools/test_row_starts reads them for it.
-ghost use Rattle.std.specs.Prelude.{◌≡◌, ◌+◌, ◌*◌, ◌≤◌, true, leb, length, get_or};
-ghost use Rattle.std.specs.Float.{nan};
-ghost use Rattle.drifters_real.specs.Scalar.{◌⊕◌, ◌⊗◌};
-ghost use Rattle.drifters_matrix.specs.Matrix.{tab, at, matrix, zeros, transpose, sum_terms, matmul, mul_transpose, scaled, set_block, block, all_finite, amax, from_diagonal, diagonal, symmetrize, add_matrix, sub_matrix, neg_matrix, larger};
+// Port of math/matrix.rs: a matrix of any size, its entries in one flat array, row by row. The loops are those of runs.rt; the factorisation is
+// in drifters_cholesky. A method that returns a matrix makes one; one with `out`, or with `&mut self`, makes none.
+ghost use Rattle.std.specs.Prelude.{◌≡◌, ◌*◌, ◌^◌, ◌≤◌, ◌<◌};
+ghost use Rattle.drifters_matrix.specs.Matrix.{zeros, transpose, matmul, mul_transpose, scaled, set_block, block, all_finite, amax, from_diagonal, identity, diagonal, symmetrize, add_matrix, sub_matrix, neg_matrix};
 
-use drifters_real::math::real::{abs, is_finite};
+use crate::math::runs;
 
-// The r by c matrix `m`, transposed into `out`. Row i of `m` starts at s, row j of `out` at t.
-pub(crate) fn transpose_into(m: &[f64], out: &mut [f64], r: usize, c: usize)
-    requires { (length m.now ≡ r * c) × (length out.old ≡ c * r) }
-    ensures { out.new ≡ transpose r c m.now }
-{
-    let mut s = 0;
-    for i in 0..r {
-        let mut t = 0;
-        for j in 0..c {
-            out[t + i] = m[s + j];
-            t += r;
-        }
-        s += c;
+// R rows and C columns. N is R * C: a const argument cannot be computed, so the number of entries is a parameter of its own.
+#[derive(Clone, Copy)]
+pub struct Matrix<const R: usize, const C: usize, const N: usize> {
+    pub data: [f64; N],
+}
+
+// A column of N.
+pub type Vector<const N: usize> = Matrix<N, 1, N>;
+
+// One measured number, or its variance.
+pub type Mat1 = Matrix<1, 1, 1>;
+
+// Rotations, skew forms, blocks of three axes.
+pub type Mat3 = Matrix<3, 3, 9>;
+
+pub type Mat6 = Matrix<6, 6, 36>;
+
+pub type Mat18 = Matrix<18, 18, 324>;
+
+// The covariance.
+pub type Mat21 = Matrix<21, 21, 441>;
+
+// The output row of one measured number.
+pub type Mat1x21 = Matrix<1, 21, 21>;
+
+// An output matrix.
+pub type Mat3x21 = Matrix<3, 21, 63>;
+
+// A gain.
+pub type Mat21x3 = Matrix<21, 3, 63>;
+
+pub type Mat21x6 = Matrix<21, 6, 126>;
+
+pub type Mat21x18 = Matrix<21, 18, 378>;
+
+pub type Vector3 = Vector<3>;
+
+pub type Vector6 = Vector<6>;
+
+// A gain of one measured number, among others.
+pub type Vector21 = Vector<21>;
+
+impl<const R: usize, const C: usize, const N: usize> Matrix<R, C, N> {
+    pub fn zeros() -> Matrix<R, C, N>
+        ensures { result.data ≡ zeros N }
+    {
+        Matrix { data: [0.0; N] }
     }
-}
 
-// +0.0 in every place.
-pub fn clear(row: &mut [f64])
-    ensures { row.new ≡ zeros (length row.old) }
-{
-    let n = row.len();
-    for j in 0..n {
-        row[j] = 0.0;
+    pub fn transpose(&self) -> Matrix<C, R, N>
+        requires { N ≡ R * C }
+        ensures { result.data ≡ transpose R C self.now.data }
+    {
+        let mut data = [0.0; N];
+        runs::transpose_into(&self.data, &mut data, R, C);
+        Matrix { data }
     }
-}
 
-// `src` into `out`.
-fn copy_into(src: &[f64], out: &mut [f64])
-    requires { length out.old ≡ length src.now }
-    ensures { out.new ≡ src.now }
-{
-    let n = out.len();
-    for j in 0..n {
-        out[j] = src[j];
+    pub fn transpose_into(&self, out: &mut Matrix<C, R, N>)
+        requires { N ≡ R * C }
+        ensures { out.new.data ≡ transpose R C self.now.data }
+    {
+        runs::transpose_into(&self.data, &mut out.data, R, C);
     }
-}
 
-// x * b[s + j] added to row[j], for each j.
-pub(crate) fn add_scaled(row: &mut [f64], x: f64, b: &[f64], s: usize)
-    requires { s + length row.old ≤ length b.now }
-    ensures { row.new ≡ tab (length row.old) (λ j. get_or row.old j nan ⊕ x ⊗ get_or b.now (s + j) nan) }
-{
-    let n = row.len();
-    for j in 0..n {
-        row[j] = row[j] + x * b[s + j];
+    // D ≤ K, that the result has a row, bounds the row of D entries in which its sums are kept.
+    pub fn matmul<const D: usize, const M: usize, const K: usize>(
+        &self,
+        rhs: &Matrix<C, D, M>,
+    ) -> Matrix<R, D, K>
+        requires { (N ≡ R * C) × (M ≡ C * D) × (K ≡ R * D) × (D ≤ K) }
+        ensures { result.data ≡ matmul R C D self.now.data rhs.now.data }
+    {
+        let mut out = Matrix { data: [0.0; K] };
+        self.matmul_into(rhs, &mut out);
+        out
     }
-}
 
-// The row a[s..s + c] times `b`, into `row`: the terms of an entry in the order of k, those of a zero in `a` skipped where `skip` is set. Row k of
-// `b` starts at t.
-fn product_row(skip: bool, a: &[f64], s: usize, c: usize, b: &[f64], row: &mut [f64])
-    requires { (s + c ≤ length a.now) × (c * length row.old ≤ length b.now) }
-    ensures { row.new ≡ tab (length row.old) (λ j. sum_terms skip (λ k. get_or a.now (s + k) nan) (λ k. get_or b.now (k * length row.old + j) nan) c) }
-{
-    clear(row);
-    let n = row.len();
-    let mut t = 0;
-    for k in 0..c {
-        let x = a[s + k];
-        if !skip || x != 0.0 {
-            add_scaled(row, x, b, t);
-        }
-        t += n;
+    pub fn matmul_into<const D: usize, const M: usize, const K: usize>(
+        &self,
+        rhs: &Matrix<C, D, M>,
+        out: &mut Matrix<R, D, K>,
+    )
+        requires { (N ≡ R * C) × (M ≡ C * D) × (K ≡ R * D) × (D ≤ K) }
+        ensures { out.new.data ≡ matmul R C D self.now.data rhs.now.data }
+    {
+        let mut row = [0.0; D];
+        runs::matmul_into(&self.data, &rhs.data, &mut row, &mut out.data, R, C, D);
     }
-}
 
-// The r by c matrix `a` times the c by d matrix `b`, into `out`. The sums of a row are kept in `row`, so that they stay in registers. The row of `a`
-// starts at s, that of `out` at t.
-fn product_into(
-    skip: bool,
-    a: &[f64],
-    b: &[f64],
-    row: &mut [f64],
-    out: &mut [f64],
-    r: usize,
-    c: usize,
-    d: usize,
-)
-    requires { (length a.now ≡ r * c) × ((length b.now ≡ c * d) × ((length row.old ≡ d) × (length out.old ≡ r * d))) }
-    ensures { out.new ≡ matrix r d (λ i j. sum_terms skip (at c a.now i) (λ k. at d b.now k j) c) }
-{
-    let mut s = 0;
-    let mut t = 0;
-    for _ in 0..r {
-        product_row(skip, a, s, c, b, row);
-        copy_into(row, &mut out[t..t + d]);
-        s += c;
-        t += d;
+    // The matrix times the transpose of `rhs`.
+    pub fn mul_transpose<const D: usize, const M: usize, const K: usize>(
+        &self,
+        rhs: &Matrix<D, C, M>,
+    ) -> Matrix<R, D, K>
+        requires { (N ≡ R * C) × (M ≡ D * C) × (K ≡ R * D) × (D ≤ K) }
+        ensures { result.data ≡ mul_transpose R C D self.now.data rhs.now.data }
+    {
+        let mut out = Matrix { data: [0.0; K] };
+        self.mul_transpose_into(rhs, &mut out);
+        out
     }
-}
 
-// The r by c matrix `a` times the c by d matrix `b`, into `out`.
-pub(crate) fn matmul_into(
-    a: &[f64],
-    b: &[f64],
-    row: &mut [f64],
-    out: &mut [f64],
-    r: usize,
-    c: usize,
-    d: usize,
-)
-    requires { (length a.now ≡ r * c) × ((length b.now ≡ c * d) × ((length row.old ≡ d) × (length out.old ≡ r * d))) }
-    ensures { out.new ≡ matmul r c d a.now b.now }
-{
-    product_into(true, a, b, row, out, r, c, d);
-}
-
-// The r by c matrix `a` times the transpose of the d by c matrix `b`, into `out`. The transpose is made in `t`, so that the inner
-// loop runs over the result's columns and vectorises; each entry still adds its terms in the order of k.
-pub(crate) fn mul_transpose_into(
-    a: &[f64],
-    b: &[f64],
-    t: &mut [f64],
-    row: &mut [f64],
-    out: &mut [f64],
-    r: usize,
-    c: usize,
-    d: usize,
-)
-    requires { (length a.now ≡ r * c) × ((length b.now ≡ d * c) × ((length t.old ≡ c * d) × ((length row.old ≡ d) × (length out.old ≡ r * d)))) }
-    ensures { out.new ≡ mul_transpose r c d a.now b.now }
-{
-    transpose_into(b, t, d, c);
-    product_into(false, a, t, row, out, r, c, d);
-}
-
-// The r by c matrix `a` times the diagonal matrix of `d`, into `out`, where both are finite: each column times its number. The
-// rows of `a` and `out` start at s.
-pub(crate) fn scale_columns_into(a: &[f64], d: &[f64], out: &mut [f64], r: usize, c: usize)
-    requires { (length a.now ≡ r * c) × ((length d.now ≡ c) × ((length out.old ≡ r * c) × ((all_finite a.now ≡ true) × (all_finite d.now ≡ true)))) }
-    ensures { out.new ≡ matmul r c c a.now (from_diagonal c d.now) }
-{
-    let mut s = 0;
-    for _ in 0..r {
-        for j in 0..c {
-            out[s + j] = 0.0 + a[s + j] * d[j];
-        }
-        s += c;
-    }
-}
-
-// Each of the n entries times s.
-pub(crate) fn scale_in(m: &mut [f64], s: f64, n: usize)
-    requires { length m.old ≡ n }
-    ensures { m.new ≡ scaled n m.old s }
-{
-    for k in 0..n {
-        m[k] = m[k] * s;
-    }
-}
-
-// The `len` places from `start` on lie within `n` places. No sum can overflow.
-fn range_fits(n: usize, len: usize, start: usize) -> bool
-    ensures { result ≡ leb (start + len) n }
-{
-    len <= n && start <= n - len
-}
-
-// The br by bc matrix `src` into the block at (r0, c0) of the r by c matrix `m`; nothing where the block does not fit.
-pub(crate) fn set_block_in(
-    m: &mut [f64],
-    src: &[f64],
-    r: usize,
-    c: usize,
-    br: usize,
-    bc: usize,
-    r0: usize,
-    c0: usize,
-)
-    requires { (length m.old ≡ r * c) × (length src.now ≡ br * bc) }
-    ensures { m.new ≡ set_block r c br bc r0 c0 m.old src.now }
-{
-    if range_fits(r, br, r0) & range_fits(c, bc, c0) {
-        for i in 0..br {
-            for j in 0..bc {
-                m[(r0 + i) * c + (c0 + j)] = src[i * bc + j];
-            }
+    // Where `rhs` is finite, the term of a zero on the left is a zero that changes no sum: it is skipped.
+    pub fn mul_transpose_into<const D: usize, const M: usize, const K: usize>(
+        &self,
+        rhs: &Matrix<D, C, M>,
+        out: &mut Matrix<R, D, K>,
+    )
+        requires { (N ≡ R * C) × (M ≡ D * C) × (K ≡ R * D) × (D ≤ K) }
+        ensures { out.new.data ≡ mul_transpose R C D self.now.data rhs.now.data }
+    {
+        let mut t = [0.0; M];
+        let mut row = [0.0; D];
+        if runs::all_finite(&rhs.data) {
+            runs::transpose_into(&rhs.data, &mut t, D, C);
+            runs::matmul_into(&self.data, &t, &mut row, &mut out.data, R, C, D);
+        } else {
+            runs::mul_transpose_into(
+                &self.data,
+                &rhs.data,
+                &mut t,
+                &mut row,
+                &mut out.data,
+                R,
+                C,
+                D,
+            );
         }
     }
-}
 
-// The block at (r0, c0) of the r by c matrix `m`, into the br by bc matrix `out`, which is all zeros; nothing where the block does not fit.
-pub(crate) fn block_into(
-    m: &[f64],
-    out: &mut [f64],
-    r: usize,
-    c: usize,
-    br: usize,
-    bc: usize,
-    r0: usize,
-    c0: usize,
-)
-    requires { (length m.now ≡ r * c) × (out.old ≡ zeros (br * bc)) }
-    ensures { out.new ≡ block r c br bc r0 c0 m.now }
-{
-    if range_fits(r, br, r0) & range_fits(c, bc, c0) {
-        for i in 0..br {
-            for j in 0..bc {
-                out[i * bc + j] = m[(r0 + i) * c + (c0 + j)];
-            }
+    // The matrix times the diagonal matrix of `d`, which has CC entries: it is made only where a number is not finite.
+    pub fn mul_diagonal<const CC: usize>(&self, d: [f64; C]) -> Matrix<R, C, N>
+        requires { (N ≡ R * C) × (C ≤ N) × (CC ≡ C * C) × (CC * 8 < 2 ^ 63) }
+        ensures { result.data ≡ matmul R C C self.now.data (from_diagonal C d.entry) }
+    {
+        if !(runs::all_finite(&self.data) & runs::all_finite(&d)) {
+            let diagonal: Matrix<C, C, CC> = Matrix::from_diagonal(d);
+            return self.matmul(&diagonal);
         }
+        let mut data = [0.0; N];
+        runs::scale_columns_into(&self.data, &d, &mut data, R, C);
+        Matrix { data }
+    }
+
+    pub fn scaled(&self, s: f64) -> Matrix<R, C, N>
+        ensures { result.data ≡ scaled N self.now.data s }
+    {
+        let mut out = *self;
+        out.scale(s);
+        out
+    }
+
+    pub fn scale(&mut self, s: f64)
+        ensures { self.new.data ≡ scaled N self.old.data s }
+    {
+        runs::scale_in(&mut self.data, s);
+    }
+
+    pub fn add(self, rhs: Matrix<R, C, N>) -> Matrix<R, C, N>
+        ensures { result.data ≡ add_matrix N self.entry.data rhs.entry.data }
+    {
+        let mut out = self;
+        out.add_in(&rhs);
+        out
+    }
+
+    pub fn add_in(&mut self, rhs: &Matrix<R, C, N>)
+        ensures { self.new.data ≡ add_matrix N self.old.data rhs.now.data }
+    {
+        runs::add_in(&mut self.data, &rhs.data);
+    }
+
+    // Each entry plus that of `rhs` times s.
+    pub fn add_scaled(&mut self, rhs: &Matrix<R, C, N>, s: f64)
+        ensures { self.new.data ≡ add_matrix N self.old.data (scaled N rhs.now.data s) }
+    {
+        runs::add_scaled(&mut self.data, s, &rhs.data, 0);
+    }
+
+    pub fn sub(self, rhs: Matrix<R, C, N>) -> Matrix<R, C, N>
+        ensures { result.data ≡ sub_matrix N self.entry.data rhs.entry.data }
+    {
+        let mut out = self;
+        out.sub_in(&rhs);
+        out
+    }
+
+    pub fn sub_in(&mut self, rhs: &Matrix<R, C, N>)
+        ensures { self.new.data ≡ sub_matrix N self.old.data rhs.now.data }
+    {
+        runs::sub_in(&mut self.data, &rhs.data);
+    }
+
+    pub fn neg(self) -> Matrix<R, C, N>
+        ensures { result.data ≡ neg_matrix N self.entry.data }
+    {
+        let mut data = self.data;
+        runs::neg_in(&mut data);
+        Matrix { data }
+    }
+
+    // `src` in the block at (r0, c0); the matrix as it is where the block does not fit.
+    pub fn set_block<const BR: usize, const BC: usize, const M: usize>(
+        &mut self,
+        r0: usize,
+        c0: usize,
+        src: &Matrix<BR, BC, M>,
+    )
+        requires { (N ≡ R * C) × (M ≡ BR * BC) }
+        ensures { self.new.data ≡ set_block R C BR BC r0 c0 self.old.data src.now.data }
+    {
+        runs::set_block_in(&mut self.data, &src.data, R, C, BR, BC, r0, c0);
+    }
+
+    // `column` in column k; the matrix as it is where there is no such column.
+    pub fn set_column(&mut self, k: usize, column: [f64; R])
+        requires { N ≡ R * C }
+        ensures { self.new.data ≡ set_block R C R 1 0 k self.old.data column.entry }
+    {
+        runs::set_block_in(&mut self.data, &column, R, C, R, 1, 0, k);
+    }
+
+    // The block at (r0, c0); zeros where it does not fit.
+    pub fn block<const BR: usize, const BC: usize, const M: usize>(
+        &self,
+        r0: usize,
+        c0: usize,
+    ) -> Matrix<BR, BC, M>
+        requires { (N ≡ R * C) × (M ≡ BR * BC) }
+        ensures { result.data ≡ block R C BR BC r0 c0 self.now.data }
+    {
+        let mut data = [0.0; M];
+        runs::block_into(&self.data, &mut data, R, C, BR, BC, r0, c0);
+        Matrix { data }
+    }
+
+    pub fn is_finite(&self) -> bool
+        ensures { result ≡ all_finite self.now.data }
+    {
+        runs::all_finite(&self.data)
+    }
+
+    // The largest size of an entry.
+    pub fn amax(&self) -> f64
+        ensures { result ≡ amax N self.now.data }
+    {
+        runs::amax_of(&self.data)
     }
 }
 
-// Every entry is finite. The loop has no exit of its own, so that several entries are tested at once.
-pub fn all_finite(m: &[f64]) -> bool
-    ensures { result ≡ all_finite m.now }
-{
-    let mut finite = true;
-    for k in 0..m.len() {
-        finite = finite & is_finite(m[k]);
+impl<const R: usize, const N: usize> Matrix<R, R, N> {
+    pub fn identity() -> Matrix<R, R, N>
+        requires { N ≡ R * R }
+        ensures { result.data ≡ identity R }
+    {
+        Matrix::from_diagonal([1.0; R])
     }
-    finite
-}
 
-// The larger of `acc` and the size of x; `acc` where x is not a number.
-pub fn larger(acc: f64, x: f64) -> f64
-    ensures { result ≡ larger acc x }
-{
-    let a = abs(x);
-    if a > acc { a } else { acc }
-}
-
-// The largest size among the n entries, from +0.0.
-pub(crate) fn amax_of(m: &[f64], n: usize) -> f64
-    requires { length m.now ≡ n }
-    ensures { result ≡ amax n m.now }
-{
-    let mut largest = 0.0;
-    for k in 0..n {
-        largest = larger(largest, m[k]);
+    pub fn from_diagonal(d: [f64; R]) -> Matrix<R, R, N>
+        requires { N ≡ R * R }
+        ensures { result.data ≡ from_diagonal R d.entry }
+    {
+        let mut data = [0.0; N];
+        runs::from_diagonal_in(&mut data, &d, R);
+        Matrix { data }
     }
-    largest
-}
 
-// The entries of `d` on the diagonal of the n by n matrix `m`, which is all zeros.
-pub(crate) fn from_diagonal_in(m: &mut [f64], d: &[f64], n: usize)
-    requires { (m.old ≡ zeros (n * n)) × (length d.now ≡ n) }
-    ensures { m.new ≡ from_diagonal n d.now }
-{
-    for i in 0..n {
-        m[i * n + i] = d[i];
+    pub fn diagonal(&self) -> [f64; R]
+        requires { N ≡ R * R }
+        ensures { result ≡ diagonal R self.now.data }
+    {
+        let mut out = [0.0; R];
+        runs::diagonal_into(&self.data, &mut out, R);
+        out
     }
-}
 
-// The diagonal of the n by n matrix `m`, into `out`.
-pub(crate) fn diagonal_into(m: &[f64], out: &mut [f64], n: usize)
-    requires { (length m.now ≡ n * n) × (length out.old ≡ n) }
-    ensures { out.new ≡ diagonal n m.now }
-{
-    for i in 0..n {
-        out[i] = m[i * n + i];
-    }
-}
-
-// Each mirrored pair of the n by n matrix `m` replaced by its mean.
-pub(crate) fn symmetrize_in(m: &mut [f64], n: usize)
-    requires { length m.old ≡ n * n }
-    ensures { m.new ≡ symmetrize n m.old }
-{
-    for i in 0..n {
-        for j in i + 1..n {
-            let v = 0.5 * (m[i * n + j] + m[j * n + i]);
-            m[i * n + j] = v;
-            m[j * n + i] = v;
-        }
-    }
-}
-
-// Each of the n entries of `m` plus that of `b`.
-pub(crate) fn add_in(m: &mut [f64], b: &[f64], n: usize)
-    requires { (length m.old ≡ n) × (length b.now ≡ n) }
-    ensures { m.new ≡ add_matrix n m.old b.now }
-{
-    for k in 0..n {
-        m[k] = m[k] + b[k];
-    }
-}
-
-// Each of the n entries of `m` less that of `b`.
-pub(crate) fn sub_in(m: &mut [f64], b: &[f64], n: usize)
-    requires { (length m.old ≡ n) × (length b.now ≡ n) }
-    ensures { m.new ≡ sub_matrix n m.old b.now }
-{
-    for k in 0..n {
-        m[k] = m[k] - b[k];
-    }
-}
-
-// Each of the n entries negated.
-pub(crate) fn neg_in(m: &mut [f64], n: usize)
-    requires { length m.old ≡ n }
-    ensures { m.new ≡ neg_matrix n m.old }
-{
-    for k in 0..n {
-        m[k] = -m[k];
+    // Each mirrored pair replaced by its mean.
+    pub fn symmetrize(&mut self)
+        requires { N ≡ R * R }
+        ensures { self.new.data ≡ symmetrize R self.old.data }
+    {
+        runs::symmetrize_in(&mut self.data, R);
     }
 }

@@ -1,9 +1,10 @@
 // Port of math/quat.rs: quaternions, scalar first, by value. What needs a function that no paper defines is left out.
+// `from_array` and `to_array` have the original's names.
 ghost use Rattle.std.specs.Prelude.{◌≡◌};
 ghost use Rattle.drifters_quat.specs.Quat.{quat, from_parts, vector, to_array, from_array, norm_quat, normalized_quat, conjugate, rotate, rotate_inverse, canonicalized, short_rotation, from_rotation_vector, to_dcm, finite_quat, mul_quat};
 
 use drifters_core::math::vec3::Vec3;
-use drifters_matrix::math::shapes::Mat3;
+use drifters_matrix::math::matrix::Mat3;
 use drifters_real::math::real::{SMALL_ANGLE, is_finite, sin_cos, sqrt};
 
 #[derive(Clone, Copy)]

@@ -11,35 +11,6 @@ pub high_word_lt : (z : ℕ) → z < 2 ^ 64 → z / 2 ^ 32 < 2 ^ 32
 high_word_lt z h = shr_lt 32 32 h
 
 -- ---- the square of t1 * 2 ^ 32 + t0
-pub record Squares (t1 t0 : ℕ) : Type 0 where
-  pub low : t0 * t0 ≤ (2 ^ 32 - 1) * (2 ^ 32 - 1)
-  pub cross : 2 * t1 * t0 ≤ 2 ^ 32 * (2 ^ 32 - 1)
-  pub high : t1 * t1 ≤ 2 ^ 62
-
-pub squares : (t1 t0 : ℕ) → t1 ≤ 2 ^ 31 → t0 < 2 ^ 32 → Squares t1 t0
-squares t1 t0 h l = record { low = mul-le-mul (most t0 l) (most t0 l); cross = mul-le-mul (twice t1 h) (most t0 l); high = mul-le-mul h h }
-  where
-    most : (t0 : ℕ) → t0 < 2 ^ 32 → t0 ≤ 2 ^ 32 - 1
-    most t0 l = omega arith
-
-    twice : (t1 : ℕ) → t1 ≤ 2 ^ 31 → 2 * t1 ≤ 2 ^ 32
-    twice t1 h = omega arith
-
-few : (z0 z1 q0 q1 : ℕ) → q0 < 2 ^ 32 → q1 < 2 ^ 32 → (q0 + z1 % 2 ^ 32) / 2 ^ 32 + q1 < 2 ^ 33
-few z0 z1 q0 q1 h k = omega arith
-
-mid_lt : (t1 t0 : ℕ) → Squares t1 t0 → (t0 * t0 / 2 ^ 32 + 2 * t1 * t0 % 2 ^ 32) / 2 ^ 32 + 2 * t1 * t0 / 2 ^ 32 < 2 ^ 33
-mid_lt t1 t0 f = few (t0 * t0) (2 * t1 * t0) (t0 * t0 / 2 ^ 32) (2 * t1 * t0 / 2 ^ 32) (high_word_lt (t0 * t0) (lt_of_le_of_lt f.low (lit< tt))) (high_word_lt (2 * t1 * t0) (lt_of_le_of_lt f.cross (lit< tt)))
-
-pub squared_mid : (t1 t0 : ℕ) → Squares t1 t0 → Fits w64 ((t0 * t0 / 2 ^ 32 + 2 * t1 * t0 % 2 ^ 32) / 2 ^ 32 + 2 * t1 * t0 / 2 ^ 32)
-squared_mid t1 t0 f = Fits-bits 33 tt (mid_lt t1 t0 f)
-
-pub squared_top : (t1 t0 : ℕ) → Squares t1 t0 → Fits w64 ((t0 * t0 / 2 ^ 32 + 2 * t1 * t0 % 2 ^ 32) / 2 ^ 32 + 2 * t1 * t0 / 2 ^ 32 + t1 * t1)
-squared_top t1 t0 f = Fits-bits 63 tt (sum ((t0 * t0 / 2 ^ 32 + 2 * t1 * t0 % 2 ^ 32) / 2 ^ 32 + 2 * t1 * t0 / 2 ^ 32) (t1 * t1) (mid_lt t1 t0 f) f.high)
-  where
-    sum : (a b : ℕ) → a < 2 ^ 33 → b ≤ 2 ^ 62 → a + b < 2 ^ 63
-    sum a b h k = omega arith
-
 square_by : (z0 z1 z2 : ℕ) → (z2 * 2 ^ 64 + z1 * 2 ^ 32 + z0) / 2 ^ 56
     ≡ ((z0 / 2 ^ 32 + z1 % 2 ^ 32) / 2 ^ 32 + z1 / 2 ^ 32 + z2) / 2 ^ 24 * 2 ^ 32 + (((z0 / 2 ^ 32 + z1 % 2 ^ 32) / 2 ^ 32 + z1 / 2 ^ 32 + z2) % 2 ^ 24 * 256 + (z0 / 2 ^ 32 + z1 % 2 ^ 32) % 2 ^ 32 / 2 ^ 24)
 square_by z0 z1 z2 = omega arith
@@ -220,18 +191,5 @@ module _ (a2 a1 a0 x2 x1 x0 : ℕ) (f : Sizes a2 a1 a0 x2 x1 x0) where
       five : (u q3 p6 p7 p8 : ℕ) → u < 2 ^ 42 → q3 < 2 ^ 32 → p6 < 2 ^ 40 → p7 < 2 ^ 40 → p8 ≤ 2 ^ 14 → u / 2 ^ 32 + q3 + p6 + p7 + p8 * 2 ^ 32 < 2 ^ 48
       five u q3 p6 p7 p8 h h3 h6 h7 h8 = omega arith
 
-  pub t_fits : Fits w64 t_sum
-  t_fits = Fits-bits 34 tt t_lt
-
-  pub u_fits : Fits w64 u_sum
-  u_fits = Fits-bits 42 tt u_lt
-
   pub v_fits : Fits w64 v_sum
   v_fits = Fits-bits 48 tt v_lt
-
--- what the quotient's first digit leaves
-pub rest_fits : (v d u : ℕ) → 0 < d → d ≤ 8192 → Fits w64 (v % d * 2 ^ 32 + u % 2 ^ 32)
-rest_fits v d u P h = Fits-bits 46 tt (small (v % d) d u (mod-lt v P) h)
-  where
-    small : (r d u : ℕ) → r < d → d ≤ 8192 → r * 2 ^ 32 + u % 2 ^ 32 < 2 ^ 46
-    small r d u l h = omega arith

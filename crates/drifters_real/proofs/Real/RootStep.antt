@@ -38,7 +38,6 @@ pub record StepFacts (a s : ℕ) : Type 0 where
   pub low : 2 ^ 26 ≤ s
   pub high : s < 2 ^ 27
   pub rest : a - s * s ≤ 2 * s
-  pub u_le : u_of a s ≤ 2 ^ 26
   pub uu_le : u_of a s * u_of a s ≤ 2 ^ 52
   pub v_le : v_of a s + 2 ^ 26 ≤ 2 * s * 0x400_0000
   pub square : w_of a s * w_of a s + v_of a s ≡ a * 2 ^ 52 + u_of a s * u_of a s
@@ -74,7 +73,6 @@ step_facts a s lo hi h =
       low = l;
       high = s_high a s hi h.below;
       rest = r;
-      u_le = q;
       uu_le = mul-le-mul q q;
       v_le = remainder_le s (n_of a s % (2 * s)) (mod-lt (n_of a s) (pos s l));
       square = square_is a s (u_of a s) (n_of a s % (2 * s)) (a - s * s) (split a (s * s) h.below) (div-add-mod' (n_of a s) (2 * s));

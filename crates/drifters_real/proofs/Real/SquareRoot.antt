@@ -159,7 +159,7 @@ scaled n a K e lo hi Klo Khi = record {
 }
 
 -- ---- the pattern of the root of what b is the pattern of, where that is q * 2 ^ k of the smallest values, and a * 2 ^ K of their squares
-pub root_pattern :
+root_pattern :
     (b q k a K : ℕ) → of_bits binary64 b ≡ odd 53 false q k 1074 → 0 < q → q * 2 ^ k * 2 ^ 1074 ≡ a * 2 ^ K → 2 ^ 52 ≤ a → a < 2 ^ 53 → 52 ≤ K → K ≤ 4096
     → IsRootPattern b ((K - 52) / 2 * 2 ^ 52 + nearest_root ((1 + K % 2) * a * 2 ^ 52))
 root_pattern b q k a K is Q e lo hi Klo Khi =

@@ -28,7 +28,7 @@ fn root27(a: u64) -> u64
 }
 
 // The root of a * 2^52, to the nearest whole number: from the whole part s of a's root, 26 more
-// binary digits by one division (Zimmermann's step).
+// binary digits by one division (Zimmermann's step). Each function of the root bounds a itself: the bounds differ.
 fn rounded(a: u64) -> u64
     requires { (2 ^ 52 ≤ a) × (a < 2 ^ 54) }
     ensures { result ≡ nearest_root (a * 2 ^ 52) }
@@ -186,8 +186,7 @@ fn power_sums(x: Wide) -> Sums
     let mut sn = Wide { h: 0, l: 0 };
     let mut cp = Wide { h: 0, l: 0 };
     let mut cn = Wide { h: 0, l: 0 };
-    let mut i = 0u64;
-    while i < 16 {
+    for i in 0..16u64 {
         if w.h + w.l == 0 {
             break;
         }
@@ -198,7 +197,6 @@ fn power_sums(x: Wide) -> Sums
         sn = add_times(sn, 1, v);
         cn = add_times(cn, k + 3, v);
         w = next_term(v, x, (k + 4) * (k + 5));
-        i = i + 1;
     }
     Sums {
         sp: over_1024(sp),

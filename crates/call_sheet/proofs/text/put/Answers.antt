@@ -1,20 +1,11 @@
 -- `text::put` meets its contract.
-use mathlib.Core.Path.{refl}
-use native.Mathlib.Omega.{arith}
-use lib.ListN.{length-set}
-use lib.Seq.{paste-zero}
-use Rattle.little_endian.proofs.Placed.{paste_step, paste_done}
+use Rattle.std.proofs.Common.{length, refl, ap, ◌∙◌, arith}
+use Rattle.little_endian.specs.Bytes.{placed}
+use Rattle.little_endian.proofs.Placed.{placed_part}
 use Rattle.call_sheet.proofs.text.put.Goals as goal
-
-pub loop-i-preserved : goal.loop-i-preserved
-loop-i-preserved c =
-    let loop = c.loop-i in
-    (omega arith, (simp length-set loop.invariant.1.0, paste_step _ _ _ _ _ loop.invariant.1.1 (omega arith) c.loop-i-test.true))
 
 pub returns : goal.returns
 returns c =
-    let loop = c.loop-i in
-    (refl, paste_done _ _ _ _ loop.i loop.invariant.1.1 (omega arith))
-
-pub loop-i-init : goal.loop-i-init
-loop-i-init c = (omega arith, (refl, paste-zero _ c.args.at c.args.bytes.now))
+    let a = c.args in
+    let bytes = c.copy_from_slice.ensures.after in
+    (refl, placed_part a.out.now a.at _ _ (omega (arith, ap length bytes)) ∙ ap (placed a.out.now a.at) bytes)

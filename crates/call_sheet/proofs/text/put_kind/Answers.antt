@@ -14,6 +14,6 @@ pub returns : goal.returns
 returns c =
     let put = c.put_decimal in
     let args = c.args in
-    let number = ap (λ (f : Form). decimal f.number) c.form_of-form.ensures in
+    let number = ap decimal c.from.ensures ∙ ap (λ (f : Form). decimal f.number) c.form.ensures in
     let until = put.ensures.0 ∙ ap (λ (l : List ℕ). args.at + length l) number in
     (until, (put.ensures.1.0 ∙ ap (placed args.out.now args.at) number, omega (arith, until, kind_digit args.kind)))

@@ -47,7 +47,7 @@ pub loop-preserved : goal.loop-preserved
 loop-preserved c =
     let a = c.adjoint.ensures ∙ ap adjoint_se3 c.exp.ensures in
     let s = c.add.ensures ∙ (λ i. add_matrix 36 (c.identity.ensures i) (a i)) in
-    let p = c.matmul.ensures ∙ (λ i. matmul 6 6 6 (s i) c.loop.out.«data») in
+    let p = c.matmul-step.ensures ∙ (λ i. matmul 6 6 6 (s i) c.loop.out.«data») in
     let twice = c.new-v.ensures ∙ (λ i. record { omega = c.mul.ensures i; nu = c.mul-in-loop.ensures i }) in
     next c.loop.invariant (omega arith) twice (c.scaled-out.ensures ∙ (λ i. scaled 36 (p i) half))
 

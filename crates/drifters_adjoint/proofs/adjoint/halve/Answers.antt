@@ -61,24 +61,20 @@ next {most} {n} {v} {w} {w'} h b e z =
 done : {most n : ℕ} {v w : Se3Tangent} → Halving most v n w → halvings (most - n) w ≡ 0 → (n ≡ halvings most v) × (w ≡ halved (halvings most v) v)
 done {most} {n} {v} {w} h e = (omega (arith, h.count, e), sym (h.value ∙ rw e (halved-zero w)))
 
-pub loop-w-preserved : goal.loop-w-preserved
-loop-w-preserved c =
-    let above = ap (lt sixteenth) (size_is c.loop-w.w c.amax.ensures c.amax-in-loop-w.ensures c.max.ensures) ∙ c.loop-w-test.true in
-    let fewer = c.if-n-lt-MOST_HALVINGS.true in
-    next c.loop-w.invariant fewer above (c.new-w.ensures ∙ (λ i. record { omega = c.mul.ensures i; nu = c.mul-in-loop-w.ensures i }))
+pub loop-n-init : goal.loop-n-init
+loop-n-init c = start _ _
 
-pub returns-else-n-lt-MOST_HALVINGS : goal.returns-else-n-lt-MOST_HALVINGS
-returns-else-n-lt-MOST_HALVINGS c =
-    let left : most_halvings - c.loop-w.n ≡ 0 = omega (arith, c.if-n-lt-MOST_HALVINGS.false) in
-    done c.loop-w.invariant (rw left (halvings-zero c.loop-w.w))
+pub loop-n-preserved : goal.loop-n-preserved
+loop-n-preserved c =
+    let above = ap (lt sixteenth) (size_is c.loop-n.w c.amax.ensures c.amax-in-loop-n.ensures c.max.ensures) ∙ c.if-not-max.false in
+    next c.loop-n.invariant (omega arith) above (c.new-w.ensures ∙ (λ i. record { omega = c.mul.ensures i; nu = c.mul-in-loop-n.ensures i }))
 
-pub returns-after-loop-w : goal.returns-after-loop-w
-returns-after-loop-w c =
-    let below = ap (lt sixteenth) (size_is c.loop-w.w c.amax.ensures c.amax-in-loop-w.ensures c.max.ensures) ∙ c.loop-w-test.false in
-    done c.loop-w.invariant (halvings-none _ c.loop-w.w below)
+pub returns-then-not-max : goal.returns-then-not-max
+returns-then-not-max c =
+    let below = ap (lt sixteenth) (size_is c.loop-n.w c.amax.ensures c.amax-in-loop-n.ensures c.max.ensures) ∙ c.if-not-max.true in
+    done c.loop-n.invariant (halvings-none _ c.loop-n.w below)
 
-pub loop-w-init : goal.loop-w-init
-loop-w-init c = start _ _
-
-pub loop-w-smaller : goal.loop-w-smaller
-loop-w-smaller c = omega (arith, c.if-n-lt-MOST_HALVINGS.true)
+pub returns : goal.returns
+returns c =
+    let all : c.loop-n.n ≡ most_halvings = omega arith in
+    done (rw all at c.loop-n.invariant) (halvings-zero c.loop-n.w)

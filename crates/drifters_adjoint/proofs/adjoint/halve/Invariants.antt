@@ -11,8 +11,8 @@ pub record Halving (most : ℕ) (v : Se3Tangent) (n : ℕ) (w : Se3Tangent) : Ty
   pub count : halvings most v ≡ n + halvings (most - n) w
   pub value : halved (halvings most v) v ≡ halved (halvings (most - n) w) w
 
-abbrev pub invariant-loop-w : goal.invariant-loop-w
-invariant-loop-w l = Halving most_halvings l.initial.w l.n l.w
+abbrev pub invariant-loop-n : goal.invariant-loop-n
+invariant-loop-n l = Halving most_halvings l.initial.w l.n l.w
 
-abbrev pub decreases-loop-w : goal.decreases-loop-w
-decreases-loop-w l = most_halvings - l.n
+abbrev pub decreases-loop-n : goal.decreases-loop-n
+decreases-loop-n l = most_halvings - l.n

@@ -18,7 +18,7 @@ pub loop-k-preserved : goal.loop-k-preserved
 unfolding series_term series
 loop-k-preserved c =
     added_next (λ t s. scaled 36 (matmul 6 6 6 t c.args.m.«data») s) (add_matrix 36) (λ k. refl) (λ k. refl) c.loop-k.invariant (omega arith)
-    (c.scaled-term.ensures ∙ (λ i. scaled 36 (c.matmul.ensures i) (one ⊘ of_int binary64 (pos (c.loop-k.k + 1)))))
+    (c.scaled-term.ensures ∙ (λ i. scaled 36 (c.matmul-next.ensures i) (one ⊘ of_int binary64 (pos (c.loop-k.k + 1)))))
     c.add-psi.ensures
 
 pub returns : goal.returns

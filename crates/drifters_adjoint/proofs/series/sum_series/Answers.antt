@@ -7,9 +7,9 @@ use Rattle.drifters_adjoint.proofs.SeriesLaws.Blocks.{series_whole}
 use Rattle.drifters_adjoint.proofs.series.sum_series.Goals as goal
 
 -- by blocks
-pub returns-then-all_finite : goal.returns-then-all_finite
-returns-then-all_finite c =
-    series_whole c.args.w c.ad-m.ensures c.series-psi.ensures c.all_finite.ensures c.all_finite-2.ensures c.if-all_finite.true c.whole.ensures
+pub returns-then-is_finite : goal.returns-then-is_finite
+returns-then-is_finite c =
+    series_whole c.args.w c.ad-m.ensures c.series-psi.ensures c.is_finite.ensures c.is_finite-2.ensures c.if-is_finite.true c.whole.ensures
 
 -- the general way
 pub returns : goal.returns

@@ -2,38 +2,36 @@
 use mathlib.Core.Path.{◌≡◌, sym, ap, ◌∙◌}
 use mathlib.Core.List.{List, []}
 use Prim.Native.Nat.{ℕ}
+use borrow.Author.Rules.{rules}
 use lib.Ieee.{Float}
-use lib.ListN.{length}
-use Rattle.drifters_matrix.specs.Matrix.{zeros}
-use Rattle.drifters_entry.specs.Layout.{filter_length}
+use Rattle.std.specs.Prelude.{None, Ok}
+use Rattle.drifters_eqf.specs.Answer.{answer_of}
 use Rattle.drifters_entry.specs.Entry.{Outcome, call}
 use Rattle.drifters_kind.specs.declared.kind.Kind.TheVariants.{Direction}
-use Rattle.drifters_compasses.specs.Compasses.{direction_numbers, attempt, reading}
-use Rattle.drifters_compasses.proofs.Tries.{copied_whole, takes_place_of, try_refused, try_fine, try_worse, try_better}
+use Rattle.drifters_compasses.specs.Compasses.{direction_numbers, attempt}
+use Rattle.drifters_compasses.proofs.Tries.{takes_place_of, try_refused, try_fine, try_worse, try_better}
 use Rattle.drifters_compasses.proofs.compasses.try_reading.Goals as goal
 
 -- the try is the direction call of this reading, on a copy of the filter
-made : (run readings north_noise : List Float) (i : ℕ) {left numbers : List Float} {o : Outcome} → left ≡ run →
-    numbers ≡ direction_numbers readings north_noise i → o ≡ call Direction left numbers [] → o ≡ attempt run readings north_noise i
+made : (run readings north_noise : List Float) (i : ℕ) {numbers : List Float} {o : Outcome} → numbers ≡ direction_numbers readings north_noise i
+    → o ≡ call Direction run numbers [] → o ≡ attempt run readings north_noise i
 unfolding attempt
-made run readings north_noise i l n e = e ∙ (λ j. call Direction (l j) (n j) [])
+made run readings north_noise i n e = rw n at e
+
+pub returns-in_default : goal.returns-in_default
+returns-in_default c =
+    let none : c.in_default.field-0 ≡ None = search rules in
+    try_fine _ _ (made _ _ _ _ c.direction_numbers-numbers.ensures c.filter_call.ensures) (ap answer_of (c.in_default.is ∙ ap Ok none))
+
+pub returns-in_default-2 : goal.returns-in_default-2
+returns-in_default-2 c = try_refused _ _ (made _ _ _ _ c.direction_numbers-numbers.ensures c.filter_call.ensures) (ap answer_of c.in_default.is)
 
 pub returns-then-not-takes_place : goal.returns-then-not-takes_place
 returns-then-not-takes_place c =
-    let a = c.args in
-    try_worse _ _ (made c.args.run.now c.args.readings.now c.args.north_noise.now c.args.i (c.copy_run.ensures ∙ copied_whole c.args.run.now (zeros filter_length) (sym c.requires.0)) c.direction_numbers-numbers.ensures c.update_direction.ensures) c.in-Nis.is
-    (sym (takes_place_of _ a.best a.left.now) ∙ sym c.takes_place.ensures ∙ c.if-not-takes_place.true)
+    try_worse _ _ (made _ _ _ _ c.direction_numbers-numbers.ensures c.filter_call.ensures) (ap answer_of (c.in-Ok-Some.is ∙ ap Ok c.in-Ok-Some.field-0-is))
+    (sym (takes_place_of _ c.args.best c.args.left.now) ∙ sym c.takes_place.ensures ∙ c.if-not-takes_place.true)
 
-pub returns-else-not-takes_place : goal.returns-else-not-takes_place
-returns-else-not-takes_place c =
-    let a = c.args in
-    let same : length a.left.now ≡ length c.update_direction.new.run = c.requires.3 ∙ sym (c.update_direction.auto.run ∙ c.copy_run.auto.to) in
-    ap (reading a.i c.in-Nis.r) (c.copy_run-in-Nis.ensures ∙ copied_whole _ a.left.now same)
-    ∙ try_better _ _ (made c.args.run.now c.args.readings.now c.args.north_noise.now c.args.i (c.copy_run.ensures ∙ copied_whole c.args.run.now (zeros filter_length) (sym c.requires.0)) c.direction_numbers-numbers.ensures c.update_direction.ensures) c.in-Nis.is
-    (sym (takes_place_of _ a.best a.left.now) ∙ sym c.takes_place.ensures ∙ c.if-not-takes_place.false)
-
-pub returns-in-Fine : goal.returns-in-Fine
-returns-in-Fine c = try_fine _ _ (made c.args.run.now c.args.readings.now c.args.north_noise.now c.args.i (c.copy_run.ensures ∙ copied_whole c.args.run.now (zeros filter_length) (sym c.requires.0)) c.direction_numbers-numbers.ensures c.update_direction.ensures) c.in-Fine.is
-
-pub returns-in-Refused : goal.returns-in-Refused
-returns-in-Refused c = try_refused _ _ (made c.args.run.now c.args.readings.now c.args.north_noise.now c.args.i (c.copy_run.ensures ∙ copied_whole c.args.run.now (zeros filter_length) (sym c.requires.0)) c.direction_numbers-numbers.ensures c.update_direction.ensures) c.in-Refused.is
+pub returns : goal.returns
+returns c =
+    try_better _ _ (made _ _ _ _ c.direction_numbers-numbers.ensures c.filter_call.ensures) (ap answer_of (c.in-Ok-Some.is ∙ ap Ok c.in-Ok-Some.field-0-is))
+    (sym (takes_place_of _ c.args.best c.args.left.now) ∙ sym c.takes_place.ensures ∙ c.if-not-takes_place.false)

@@ -6,13 +6,13 @@ use Rattle.drifters_covariance.specs.Covariance.{bias_column}
 use Rattle.drifters_covariance.proofs.covariance.bias_columns.Goals as goal
 
 pub loop-k-init : goal.loop-k-init
-loop-k-init c = (omega arith, no_columns 6 6 (bias_column c.args.x))
+loop-k-init c = (omega arith, c.zeros-m.ensures ∙ no_columns 6 6 (bias_column c.args.x))
 
 pub loop-k-preserved : goal.loop-k-preserved
 loop-k-preserved c =
     let k = c.loop-k.k in
     let cols = bias_column c.args.x in
-    (omega arith, rw (c.set_column6.ensures, c.loop-k.invariant.1, c.bias_column.ensures) (next_column 6 6 k cols (omega arith)))
+    (omega arith, rw (c.set_column.ensures, c.loop-k.invariant.1, c.bias_column.ensures) (next_column 6 6 k cols (omega arith)))
 
 pub returns : goal.returns
 returns c =

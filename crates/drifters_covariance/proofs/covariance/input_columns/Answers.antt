@@ -8,7 +8,7 @@ use Rattle.drifters_covariance.proofs.covariance.input_columns.Goals as goal
 pub loop-k-init : goal.loop-k-init
 loop-k-init c =
     let a = c.args in
-    (omega arith, no_columns 21 6 (input_column a.x a.estimate a.gravity))
+    (omega arith, c.zeros-m.ensures ∙ no_columns 21 6 (input_column a.x a.estimate a.gravity))
 
 pub input_column-requires : goal.input_column-requires
 input_column-requires c =
@@ -19,7 +19,7 @@ loop-k-preserved c =
     let a = c.args in
     let k = c.loop-k.k in
     let cols = input_column a.x a.estimate a.gravity in
-    (omega arith, rw (c.set_column21x6.ensures, c.loop-k.invariant.1, c.input_column.ensures) (next_column 21 6 k cols (omega arith)))
+    (omega arith, rw (c.set_column.ensures, c.loop-k.invariant.1, c.input_column.ensures) (next_column 21 6 k cols (omega arith)))
 
 pub returns : goal.returns
 returns c =

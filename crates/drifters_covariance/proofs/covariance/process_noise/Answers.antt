@@ -6,5 +6,5 @@ pub returns : goal.returns
 unfolding process_noise
 returns c =
     let g = c.noise_map-g.ensures in
-    let product = rw (g, c.psd.ensures) at c.mul_diagonal.ensures in
+    let product = rw (g, c.psd.ensures) at c.mul_diagonal-weighted.ensures in
     rw (product, g) at c.mul_transpose.ensures

@@ -5,5 +5,5 @@ use Rattle.drifters_covariance.proofs.covariance.reset.Goals as goal
 pub returns : goal.returns
 unfolding reset_sigma
 returns c =
-    let reset = rw (c.identity-one.ensures, c.ad-ad.ensures) at c.add_scaled21.ensures in
+    let reset = rw (c.identity-m.ensures, c.ad-ad.ensures) at c.add_scaled.ensures in
     rw reset at c.congruence.ensures

@@ -1,70 +1,76 @@
--- `entry::call` meets its contract.
-use mathlib.Core.Path.{◌≡◌, refl, subst}
-use native.Mathlib.Omega.{arith}
-use Rattle.drifters_entry.specs.Layout.{from_run}
-use Rattle.drifters_entry.specs.Entry.{request_of, performed, range_checked}
-use Rattle.drifters_entry.specs.Asked.{as_request, Readable}
-use Rattle.drifters_entry.specs.declared.entry.Action.{Action}
-use Rattle.drifters_entry.specs.declared.entry.Asked.{Asked}
-use Rattle.drifters_kind.specs.declared.kind.Kind.{Kind}
-use mathlib.Core.List.{List}
+-- `entry::call` meets its contract. It is a call on the filter's array, which is the run that was lent.
+use mathlib.Core.Path.{◌≡◌, refl, sym, ap, ◌∙◌}
+use mathlib.Core.List.{List, []}
 use lib.Ieee.{Float}
-use Rattle.drifters_entry.proofs.Calls.{passed, call_refused, asked_length, call_asked, call_made}
+use Rattle.std.proofs.lemmas.Result.{err_from_is_err_and}
+use Rattle.drifters_eqf.specs.Answer.{Answer}
+use Rattle.drifters_kind.specs.declared.kind.Kind.{Kind}
+use Rattle.drifters_entry.specs.Layout.{from_run}
+use Rattle.drifters_entry.specs.Entry.{Request, Outcome, outcome, request_of, performed, range_checked, call}
+use Rattle.drifters_entry.specs.Asked.{as_request}
+use Rattle.drifters_entry.specs.declared.entry.Asked.{Asked}
+use Rattle.drifters_entry.proofs.KindLaws.{written_by}
+use Rattle.drifters_entry.proofs.Calls.{Passed, passed, run_refused, call_refused, asked_length, call_asked, call_made}
+use Rattle.drifters_entry.proofs.entry.call.Goals.{In_ok-first_refusal, In_ok-asked}
 use Rattle.drifters_entry.proofs.entry.call.Goals as goal
 
--- what is asked and read, where the action is told
-asks : (kind : Kind) (run v : List Float) (r : Asked) {a : Action} →
-    (as_request r.action r (from_run run) v ≡ request_of kind (from_run run) v) × Readable r.action r v →
-    r.action ≡ a → (as_request a r (from_run run) v ≡ request_of kind (from_run run) v) × Readable a r v
-asks kind run v r e told =
-    subst (λ (a : Action). (as_request a r (from_run run) v ≡ request_of kind (from_run run) v) × Readable a r v) told e
+of_run : (kind : Kind) (v written : List Float) {run left : List Float} {o : Outcome} → left ≡ run → o ≡ call kind left v written → o ≡ call kind run v written
+of_run kind v written same e = rw same at e
 
-pub returns-then-refusal-ne0 : goal.returns-then-refusal-ne0
-returns-then-refusal-ne0 c =
-    call_refused _ _ _ _ (rw c.form_of.ensures at c.first_refusal-refusal.ensures) c.if-refusal-ne0.true
+fits : (c : In_ok-first_refusal) → Passed c.args.kind c.in-Some.filter.now c.args.numbers.now c.args.written.now
+fits c = passed _ _ _ _ (rw c.form.ensures at c.first_refusal.ensures) c.in_ok-first_refusal.was
+
+-- where it is told what is asked
+abbrev request : In_ok-asked → Asked → Request
+request c a = as_request a (from_run c.in-Some.filter.now) c.args.numbers.now
+
+asks : (c : In_ok-asked) {a : Asked} → c.in_ok-asked.asked ≡ a → request c a ≡ request_of c.args.kind (from_run c.in-Some.filter.now) c.args.numbers.now
+asks c told = ap (request c) (sym told) ∙ c.in_ok-asked.ensures.asked
+
+made : (c : In_ok-asked) (fit : Passed c.args.kind c.in-Some.filter.now c.args.numbers.now c.args.written.now) {a : Asked} {left : List Float} {o : Answer} → c.in_ok-asked.asked ≡ a
+    → written_by (request c a) ≡ 0
+    → outcome o left [] ≡ range_checked (performed (request c a) (from_run c.in-Some.filter.now) c.in-Some.filter.now []) c.in-Some.filter.now []
+    → outcome o left c.args.written.now ≡ call c.args.kind c.args.run.now c.args.numbers.now c.args.written.now
+made c fit told nothing e = of_run _ _ _ c.in-Some.ensures.cases.same (call_made _ _ _ _ (asks c told) fit nothing e)
+
+pub returns-in_default : goal.returns-in_default
+returns-in_default c = run_refused _ _ _ _ c.in_default.ensures.cases
+
+pub returns-in_err-first_refusal : goal.returns-in_err-first_refusal
+returns-in_err-first_refusal c =
+    let p = err_from_is_err_and c.from_residual.result c.from_residual.ensures.1 in
+    rw (p.1, p.2) (of_run _ _ _ c.in-Some.ensures.cases.same (call_refused _ _ _ _ (rw c.form.ensures at c.first_refusal.ensures) c.in_err-first_refusal.was))
+
+pub returns-in_err-asked : goal.returns-in_err-asked
+unfolding performed range_checked
+returns-in_err-asked c =
+    let p = err_from_is_err_and c.from_residual-in_err-asked.result c.from_residual-in_err-asked.ensures.1 in
+    rw (p.1, p.2) (of_run _ _ _ c.in-Some.ensures.cases.same (call_asked _ _ _ _ c.in_err-asked.ensures.asked (fits (goal.at.returns-in_err-asked c).In_ok-first_refusal) refl))
+
+pub write_estimate-requires : goal.write_estimate-requires
+write_estimate-requires c =
+    let at = goal.at.write_estimate-requires c in
+    let fit = fits at.In_ok-first_refusal in
+    (asked_length _ _ _ _ (asks at.In_ok-asked c.in-Estimate.is) fit, fit.run_finite)
 
 pub returns-in-Propagate : goal.returns-in-Propagate
 returns-in-Propagate c =
-    call_made _ _ _ _ (asks c.args.kind c.args.run.now c.args.numbers.now c.asked_by-asked.result c.asked_by-asked.ensures c.in-Propagate.is).0 (passed c.args.kind c.args.run.now c.args.numbers.now c.args.written.now (rw c.form_of.ensures at c.first_refusal-refusal.ensures) c.if-refusal-ne0.false) refl c.propagate_by.ensures
+    let at = goal.at.returns-in-Propagate c in
+    made at.In_ok-asked (fits at.In_ok-first_refusal) c.in-Propagate.is refl c.propagate_by.ensures
 
 pub returns-in-Update1 : goal.returns-in-Update1
 unfolding from_run
 returns-in-Update1 c =
-    call_made _ _ _ _ (asks c.args.kind c.args.run.now c.args.numbers.now c.asked_by-asked.result c.asked_by-asked.ensures c.in-Update1.is).0 (passed c.args.kind c.args.run.now c.args.numbers.now c.args.written.now (rw c.form_of.ensures at c.first_refusal-refusal.ensures) c.if-refusal-ne0.false) refl c.update_scalar_by.ensures
+    let at = goal.at.returns-in-Update1 c in
+    made at.In_ok-asked (fits at.In_ok-first_refusal) c.in-Update1.is refl c.update_scalar_by.ensures
 
 pub returns-in-Update3 : goal.returns-in-Update3
 unfolding from_run
 returns-in-Update3 c =
-    call_made _ _ _ _ (asks c.args.kind c.args.run.now c.args.numbers.now c.asked_by-asked.result c.asked_by-asked.ensures c.in-Update3.is).0 (passed c.args.kind c.args.run.now c.args.numbers.now c.args.written.now (rw c.form_of.ensures at c.first_refusal-refusal.ensures) c.if-refusal-ne0.false) refl c.update_by.ensures
+    let at = goal.at.returns-in-Update3 c in
+    made at.In_ok-asked (fits at.In_ok-first_refusal) c.in-Update3.is refl c.update_by.ensures
 
 pub returns-in-Estimate : goal.returns-in-Estimate
 returns-in-Estimate c =
-    call_asked _ _ _ _ (asks c.args.kind c.args.run.now c.args.numbers.now c.asked_by-asked.result c.asked_by-asked.ensures c.in-Estimate.is).0 (passed c.args.kind c.args.run.now c.args.numbers.now c.args.written.now (rw c.form_of.ensures at c.first_refusal-refusal.ensures) c.if-refusal-ne0.false) c.write_estimate.ensures
-
-pub returns-in-Refuse : goal.returns-in-Refuse
-unfolding performed range_checked
-returns-in-Refuse c =
-    call_asked _ _ _ _ (asks c.args.kind c.args.run.now c.args.numbers.now c.asked_by-asked.result c.asked_by-asked.ensures c.in-Refuse.is).0 (passed c.args.kind c.args.run.now c.args.numbers.now c.args.written.now (rw c.form_of.ensures at c.first_refusal-refusal.ensures) c.if-refusal-ne0.false) refl
-
-pub asked_by-asked-requires : goal.asked_by-asked-requires
-asked_by-asked-requires c = let p = (passed c.args.kind c.args.run.now c.args.numbers.now c.args.written.now (rw c.form_of.ensures at c.first_refusal-refusal.ensures) c.if-refusal-ne0.false) in (p.run_length, p.v_length)
-
-pub propagate_by-requires : goal.propagate_by-requires
-propagate_by-requires c = ((asks c.args.kind c.args.run.now c.args.numbers.now c.asked_by-asked.result c.asked_by-asked.ensures c.in-Propagate.is).1, (passed c.args.kind c.args.run.now c.args.numbers.now c.args.written.now (rw c.form_of.ensures at c.first_refusal-refusal.ensures) c.if-refusal-ne0.false).run_length)
-
-pub bounds-run-477 : goal.bounds-run-477
-bounds-run-477 c = omega (arith, (passed c.args.kind c.args.run.now c.args.numbers.now c.args.written.now (rw c.form_of.ensures at c.first_refusal-refusal.ensures) c.if-refusal-ne0.false).run_length)
-
-pub update_scalar_by-requires : goal.update_scalar_by-requires
-update_scalar_by-requires c = ((asks c.args.kind c.args.run.now c.args.numbers.now c.asked_by-asked.result c.asked_by-asked.ensures c.in-Update1.is).1, (passed c.args.kind c.args.run.now c.args.numbers.now c.args.written.now (rw c.form_of.ensures at c.first_refusal-refusal.ensures) c.if-refusal-ne0.false).run_length)
-
-pub bounds-run-477-in-Update3 : goal.bounds-run-477-in-Update3
-bounds-run-477-in-Update3 c = omega (arith, (passed c.args.kind c.args.run.now c.args.numbers.now c.args.written.now (rw c.form_of.ensures at c.first_refusal-refusal.ensures) c.if-refusal-ne0.false).run_length)
-
-pub update_by-requires : goal.update_by-requires
-update_by-requires c = ((asks c.args.kind c.args.run.now c.args.numbers.now c.asked_by-asked.result c.asked_by-asked.ensures c.in-Update3.is).1, (passed c.args.kind c.args.run.now c.args.numbers.now c.args.written.now (rw c.form_of.ensures at c.first_refusal-refusal.ensures) c.if-refusal-ne0.false).run_length)
-
-pub write_estimate-requires : goal.write_estimate-requires
-write_estimate-requires c =
-    let p = (passed c.args.kind c.args.run.now c.args.numbers.now c.args.written.now (rw c.form_of.ensures at c.first_refusal-refusal.ensures) c.if-refusal-ne0.false) in
-    (p.run_length, asked_length _ _ _ _ (asks c.args.kind c.args.run.now c.args.numbers.now c.asked_by-asked.result c.asked_by-asked.ensures c.in-Estimate.is).0 p, p.run_finite)
+    let at = goal.at.returns-in-Estimate c in
+    of_run _ _ _ c.in-Some.ensures.cases.same (call_asked _ _ _ _ (asks at.In_ok-asked c.in-Estimate.is) (fits at.In_ok-first_refusal) c.write_estimate.ensures)

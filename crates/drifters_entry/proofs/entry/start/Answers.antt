@@ -1,38 +1,49 @@
 -- `entry::start` meets its contract.
-use mathlib.Core.Path.{◌≡◌}
-use mathlib.Core.Bool.{◌&&◌, and-eq-true_iff}
-use native.Mathlib.Omega.{arith}
-use borrow.Author.Tests.{eqb-true, not-true, not-false}
-use lib.Dec.{eqb}
+use mathlib.Core.Path.{◌≡◌, refl, sym, ◌∙◌}
+use mathlib.Core.Bool.{Bool, true, false, cond}
+use mathlib.Core.List.{List, []}
+use borrow.Author.Tests.{eq-eqb, ne_eqb}
 use lib.ListN.{length}
+use lib.Ieee.{Float}
+use Rattle.drifters_matrix.specs.Matrix.{all_finite}
+use Rattle.drifters_eqf.specs.Answer.{Fine, length_refusal, blank_refusal}
 use Rattle.drifters_entry.specs.Layout.{filter_length, start_length}
-use Rattle.drifters_entry.specs.Entry.{started, start}
-use Rattle.std.proofs.Common.{ap, not}
+use Rattle.drifters_entry.specs.Entry.{Outcome, outcome, refused, range_checked, started, start}
 use Rattle.drifters_entry.proofs.entry.start.Goals as goal
 
-pub returns-then-not-run-numbers : goal.returns-then-not-run-numbers
-unfolding start
-returns-then-not-run-numbers c = rw (not-true (eqb (length c.args.run.now) filter_length && eqb (length c.args.numbers.now) start_length) (ap not c.if-not-run-numbers.true))
+module _ (run v : List Float) where
+  run_refused : (length run ≡ filter_length → ⊥) → refused length_refusal run [] ≡ start run v
+  unfolding start
+  run_refused h = rw (ne_eqb _ _ h)
+
+  -- left is the filter's array, which is the run that was lent
+  module _ {left : List Float} (long : length run ≡ filter_length) (same : left ≡ run) where
+    numbers_refused : (length v ≡ start_length → ⊥) → refused length_refusal left [] ≡ start run v
+    unfolding start
+    numbers_refused h = rw (eq-eqb _ _ long, ne_eqb _ _ h, same)
+
+    -- t is whether the numbers are finite
+    given : (t : Bool) {o : Outcome} → length v ≡ start_length → all_finite v ≡ t → o ≡ cond t (range_checked (outcome Fine (started v) []) left []) (refused blank_refusal left [])
+        → o ≡ start run v
+    unfolding start
+    given t n h e = rw (eq-eqb _ _ long, eq-eqb _ _ n, h) (rw same at e)
+
+pub returns-in_default : goal.returns-in_default
+returns-in_default c = run_refused c.args.run.now c.args.numbers.now c.in_default.ensures.cases
+
+pub returns-then-numbers-ne-START_LENGTH : goal.returns-then-numbers-ne-START_LENGTH
+returns-then-numbers-ne-START_LENGTH c =
+    let whole = c.in-Some.ensures.cases in
+    numbers_refused c.args.run.now c.args.numbers.now whole.long whole.same c.if-numbers-ne-START_LENGTH.true
 
 pub returns-then-not-all_finite : goal.returns-then-not-all_finite
-unfolding start
 returns-then-not-all_finite c =
-    rw ((not-false (eqb (length c.args.run.now) filter_length && eqb (length c.args.numbers.now) start_length) (ap not c.if-not-run-numbers.false)), ← c.all_finite.ensures, not-true c.all_finite.result (ap not c.if-not-all_finite.true))
+    let whole = c.in-Some.ensures.cases in
+    given c.args.run.now c.args.numbers.now whole.long whole.same false c.if-numbers-ne-START_LENGTH.false (sym c.all_finite.ensures ∙ c.if-not-all_finite.true) refl
 
 pub returns : goal.returns
-unfolding start started
+unfolding started
 returns c =
-    rw ((not-false (eqb (length c.args.run.now) filter_length && eqb (length c.args.numbers.now) start_length) (ap not c.if-not-run-numbers.false)), ← c.all_finite.ensures, not-false c.all_finite.result (ap not c.if-not-all_finite.false))
-    (rw (c.new-filter.ensures, c.state_from_run-initial.ensures, c.mat21_at-sigma.ensures, c.vec3_at-gravity.ensures) at c.write_filter.ensures)
-
-pub state_from_run-initial-requires : goal.state_from_run-initial-requires
-state_from_run-initial-requires c = omega (arith, (let it : (length c.args.run.now ≡ filter_length) × (length c.args.numbers.now ≡ start_length) = let both = (and-eq-true_iff _ _).0 (not-false (eqb (length c.args.run.now) filter_length && eqb (length c.args.numbers.now) start_length) (ap not c.if-not-run-numbers.false)) in (eqb-true _ _ both.0, eqb-true _ _ both.1) in it))
-
-pub mat21_at-sigma-requires : goal.mat21_at-sigma-requires
-mat21_at-sigma-requires c = omega (arith, (let it : (length c.args.run.now ≡ filter_length) × (length c.args.numbers.now ≡ start_length) = let both = (and-eq-true_iff _ _).0 (not-false (eqb (length c.args.run.now) filter_length && eqb (length c.args.numbers.now) start_length) (ap not c.if-not-run-numbers.false)) in (eqb-true _ _ both.0, eqb-true _ _ both.1) in it))
-
-pub vec3_at-gravity-requires : goal.vec3_at-gravity-requires
-vec3_at-gravity-requires c = omega (arith, (let it : (length c.args.run.now ≡ filter_length) × (length c.args.numbers.now ≡ start_length) = let both = (and-eq-true_iff _ _).0 (not-false (eqb (length c.args.run.now) filter_length && eqb (length c.args.numbers.now) start_length) (ap not c.if-not-run-numbers.false)) in (eqb-true _ _ both.0, eqb-true _ _ both.1) in it))
-
-pub write_filter-requires : goal.write_filter-requires
-write_filter-requires c = (let it : (length c.args.run.now ≡ filter_length) × (length c.args.numbers.now ≡ start_length) = let both = (and-eq-true_iff _ _).0 (not-false (eqb (length c.args.run.now) filter_length && eqb (length c.args.numbers.now) start_length) (ap not c.if-not-run-numbers.false)) in (eqb-true _ _ both.0, eqb-true _ _ both.1) in it).0
+    let whole = c.in-Some.ensures.cases in
+    given c.args.run.now c.args.numbers.now whole.long whole.same true c.if-numbers-ne-START_LENGTH.false (sym c.all_finite.ensures ∙ c.if-not-all_finite.false)
+    (rw (c.new-filter.ensures, c.state_from_run-initial.ensures, c.matrix_at-sigma.ensures, c.vec3_at-gravity.ensures) at c.write_filter.ensures)

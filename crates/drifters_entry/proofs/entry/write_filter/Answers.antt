@@ -1,24 +1,31 @@
 -- `entry::write_filter` meets its contract.
-use mathlib.Core.Bool.{true, false}
-use Rattle.drifters_entry.proofs.Calls.{checked_refused, checked_fine, checked_nis}
-use Rattle.std.proofs.Common.{ap, not}
+use mathlib.Core.Path.{◌≡◌, sym, ap, ap₂, ◌∙◌}
+use mathlib.Core.Bool.{Bool, ◌&&◌}
+use Rattle.drifters_matrix.specs.Matrix.{all_finite}
+use Rattle.drifters_entry.specs.Layout.{to_run}
+use Rattle.drifters_entry.proofs.Calls.{nis_finite, checked}
+use Rattle.drifters_entry.proofs.entry.write_filter.Goals.{After-filter_is_finite, in-Some, in-None}
 use Rattle.drifters_entry.proofs.entry.write_filter.Goals as goal
 
-pub returns-else-not-is_finite-filter_is_finite : goal.returns-else-not-is_finite-filter_is_finite
-returns-else-not-is_finite-filter_is_finite c =
-    rw c.to_run-in-Nis.ensures (checked_nis _ _ true c.in-Nis.is c.is_finite.ensures c.filter_is_finite-in-Nis.ensures (ap not c.if-not-is_finite-filter_is_finite.false))
+-- the normalised innovation squared is not changed
+kept : (c : After-filter_is_finite) → c.match-nis.nis ≡ c.args.nis
+kept c = elim c.match-nis.branch [ in-Some w ↦ w.nis-is ∙ sym w.in-Some.is | in-None w ↦ w.nis-is ]
 
-pub returns-then-not-filter_is_finite : goal.returns-then-not-filter_is_finite
-returns-then-not-filter_is_finite c =
-    checked_fine _ _ false c.in-Fine.is c.filter_is_finite.ensures (ap not c.if-not-filter_is_finite.true)
+-- t is what the test found
+found : (c : After-filter_is_finite) {t : Bool} → c.match-nis.nis_is_finite && c.filter_is_finite.result ≡ t → nis_finite c.args.nis && all_finite (to_run c.args.filter.now) ≡ t
+found c e =
+    let tested : c.match-nis.nis_is_finite ≡ nis_finite c.args.nis =
+    elim c.match-nis.branch [
+      | in-Some w ↦ w.nis_is_finite-is ∙ w.is_finite-nis_is_finite.ensures ∙ ap nis_finite (sym w.in-Some.is)
+      | in-None w ↦ w.nis_is_finite-is ∙ ap nis_finite (sym w.in-None.is)
+    ] in
+    sym (ap₂ ◌&&◌ tested c.filter_is_finite.ensures) ∙ e
 
-pub returns-then-not-is_finite-filter_is_finite : goal.returns-then-not-is_finite-filter_is_finite
-returns-then-not-is_finite-filter_is_finite c =
-    checked_nis _ _ false c.in-Nis.is c.is_finite.ensures c.filter_is_finite-in-Nis.ensures (ap not c.if-not-is_finite-filter_is_finite.true)
+pub returns-then-not-nis_is_finite-filter_is_finite : goal.returns-then-not-nis_is_finite-filter_is_finite
+returns-then-not-nis_is_finite-filter_is_finite c =
+    checked c.args.nis _ c.args.run.now (found ((goal.at.returns-then-not-nis_is_finite-filter_is_finite c).After-filter_is_finite) c.if-not-nis_is_finite-filter_is_finite.true)
 
-pub returns-in-Refused : goal.returns-in-Refused
-returns-in-Refused c = checked_refused _ _ c.in-Refused.is
-
-pub returns-else-not-filter_is_finite : goal.returns-else-not-filter_is_finite
-returns-else-not-filter_is_finite c =
-    rw c.to_run.ensures (checked_fine _ _ true c.in-Fine.is c.filter_is_finite.ensures (ap not c.if-not-filter_is_finite.false))
+pub returns : goal.returns
+returns c =
+    let before = (goal.at.returns c).After-filter_is_finite in
+    rw (kept before, c.to_run.ensures) (checked c.args.nis _ c.args.run.now (found before c.if-not-nis_is_finite-filter_is_finite.false))

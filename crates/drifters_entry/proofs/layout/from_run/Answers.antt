@@ -9,7 +9,7 @@ unfolding from_run
 returns c =
     λ i. record {
       x = c.symmetry_from_run.ensures i;
-      sigma = record { «data» = c.mat21_at.ensures i };
+      sigma = record { «data» = c.matrix_at.ensures i };
       gravity = c.vec3_at.ensures i;
       alpha = get_or c.args.run.now alpha_place nan;
     }

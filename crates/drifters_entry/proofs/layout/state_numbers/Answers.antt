@@ -2,7 +2,6 @@
 use mathlib.Core.Path.{◌≡◌, refl, sym}
 use mathlib.Core.List.{List, [], ◌∷◌, ◌++◌}
 use borrow.Author.Rules.{rules}
-use lib.Dec.{lit<}
 use lib.ListN.{length, get_or}
 use lib.Ieee.{Float, nan}
 use Rattle.drifters_matrix.specs.Matrix.{tab}
@@ -23,57 +22,3 @@ returns c =
     let h : length a.c.rotation.«data» ≡ 9 = search rules depth 9 in
     let k : length a.m.«data» ≡ 9 = search rules depth 9 in
     λ i. nine a.c.rotation.«data» h i ++ to_array a.c.velocity ++ to_array a.c.position ++ to_array_se3 a.w ++ to_array a.v ++ nine a.m.«data» k i
-
-pub bounds-a-0 : goal.bounds-a-0
-bounds-a-0 c = lit< tt
-
-pub bounds-a-1 : goal.bounds-a-1
-bounds-a-1 c = lit< tt
-
-pub bounds-a-2 : goal.bounds-a-2
-bounds-a-2 c = lit< tt
-
-pub bounds-a-3 : goal.bounds-a-3
-bounds-a-3 c = lit< tt
-
-pub bounds-a-4 : goal.bounds-a-4
-bounds-a-4 c = lit< tt
-
-pub bounds-a-5 : goal.bounds-a-5
-bounds-a-5 c = lit< tt
-
-pub bounds-a-6 : goal.bounds-a-6
-bounds-a-6 c = lit< tt
-
-pub bounds-a-7 : goal.bounds-a-7
-bounds-a-7 c = lit< tt
-
-pub bounds-a-8 : goal.bounds-a-8
-bounds-a-8 c = lit< tt
-
-pub bounds-e-0 : goal.bounds-e-0
-bounds-e-0 c = lit< tt
-
-pub bounds-e-1 : goal.bounds-e-1
-bounds-e-1 c = lit< tt
-
-pub bounds-e-2 : goal.bounds-e-2
-bounds-e-2 c = lit< tt
-
-pub bounds-e-3 : goal.bounds-e-3
-bounds-e-3 c = lit< tt
-
-pub bounds-e-4 : goal.bounds-e-4
-bounds-e-4 c = lit< tt
-
-pub bounds-e-5 : goal.bounds-e-5
-bounds-e-5 c = lit< tt
-
-pub bounds-e-6 : goal.bounds-e-6
-bounds-e-6 c = lit< tt
-
-pub bounds-e-7 : goal.bounds-e-7
-bounds-e-7 c = lit< tt
-
-pub bounds-e-8 : goal.bounds-e-8
-bounds-e-8 c = lit< tt

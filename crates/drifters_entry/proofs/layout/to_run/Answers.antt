@@ -2,8 +2,6 @@
 use mathlib.Core.Path.{◌∙◌}
 use mathlib.Core.List.{◌++◌}
 use native.Mathlib.Omega.{arith}
-use borrow.Author.Rules.{rules}
-use lib.ListN.{length-set}
 use Rattle.drifters_core.specs.Vec3.{to_array}
 use Rattle.drifters_lie.specs.Lie.{to_array_se3}
 use Rattle.drifters_entry.specs.Layout.{pose_numbers, to_run}
@@ -14,12 +12,9 @@ use Rattle.drifters_entry.proofs.layout.to_run.Goals as goal
 pub returns : goal.returns
 unfolding to_run
 returns c =
-    let x = c.args.x in
-    let b0 = begins_none c.args.run.now c.requires in
-    let b1 = begins_next {v = pose_numbers x.c ++ to_array_se3 x.gamma ++ to_array x.delta ++ x.e.«data»} 33 b0 c.store.auto.out (c.store.ensures ∙ c.state_numbers-numbers.ensures) (omega arith) in
-    let b2 = begins_next 441 b1 c.store-2.auto.out c.store-2.ensures (omega arith) in
-    let b3 = begins_next 3 b2 c.store_vec3.auto.out c.store_vec3.ensures (omega arith) in
-    begins_last c.args.alpha b3
-
-pub shape_of-run : goal.shape_of-run
-shape_of-run c = simp length-set (search rules)
+    let x = c.args.filter.now.x in
+    let b0 = begins_none c.args.run.now c.told-run in
+    let b1 = begins_next {v = pose_numbers x.c ++ to_array_se3 x.gamma ++ to_array x.delta ++ x.e.«data»} 33 b0 c.copy_from_slice.auto.self (c.copy_from_slice.ensures.after ∙ c.state_numbers-numbers.ensures) (omega arith) in
+    let b2 = begins_next 441 b1 c.copy_from_slice-2.auto.self c.copy_from_slice-2.ensures.after (omega arith) in
+    let b3 = begins_next 3 b2 c.copy_from_slice-3.auto.self (c.copy_from_slice-3.ensures.after ∙ c.to_array.ensures) (omega arith) in
+    begins_last c.args.filter.now.alpha b3

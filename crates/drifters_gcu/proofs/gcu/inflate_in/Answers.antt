@@ -21,13 +21,13 @@ inflated-done {n} outer noise b share w e =
     ∙ tab_ext n _ _ (λ k h. sym (ap (λ z. z ⊕ get_or noise k nan) (get_d_tab n _ k nan h ∙ ap₂ ◌⊕◌ (get_d_tab n _ k nan h) (get_d_tab n _ k nan h))))
 
 pub returns : goal.returns
-returns c =
+returns g c =
     let a = c.args in
     rw (← c.beta-b.ensures, ← c.clamp.ensures)
     (inflated-done a.outer.now a.noise.now c.beta-b.result (c.beta-b.result ⊗ c.clamp.result) c.loop-k.invariant (omega arith))
 
 pub loop-k-init : goal.loop-k-init
-loop-k-init c = mapped_none c.requires.0
+loop-k-init g c = mapped_none (omega arith)
 
 pub loop-k-preserved : goal.loop-k-preserved
-loop-k-preserved c = mapped_set c.loop-k.invariant (omega arith)
+loop-k-preserved g c = mapped_set c.loop-k.invariant (omega arith)

@@ -1,6 +1,6 @@
 -- `gcu::inflate_in` meets its contract: before round k, the first k entries are inflated.
 use mathlib.Core.List.{List}
-use Prim.Native.Nat.{ℕ, ◌-◌}
+use Prim.Native.Nat.{ℕ}
 use lib.Ieee.{Float, nan}
 use lib.ListN.{get_or}
 use Rattle.drifters_real.specs.Scalar.{◌⊕◌, ◌⊗◌}
@@ -12,7 +12,4 @@ abbrev pub inflated_entry : List Float → List Float → Float → Float → �
 inflated_entry outer noise b share k x = x ⊗ b ⊕ get_or outer k nan ⊗ share ⊕ get_or noise k nan
 
 abbrev pub invariant-loop-k : goal.invariant-loop-k
-invariant-loop-k l = Mapped l.n (inflated_entry l.outer l.noise l.b l.share) l.initial.m l.k l.m
-
-abbrev pub decreases-loop-k : goal.decreases-loop-k
-decreases-loop-k l = l.n - l.k
+invariant-loop-k g l = Mapped g.row.N (inflated_entry l.outer l.noise l.b l.share) l.initial.m l.k l.m

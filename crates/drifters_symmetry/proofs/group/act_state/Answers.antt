@@ -10,5 +10,5 @@ returns c =
     let rotation = rw c.a.ensures at c.transpose-a_t.ensures in
     let bias = rw (c.inverse.ensures, c.b.ensures, c.sub.ensures) at c.adjoint_apply.ensures in
     let lever = c.mul_vec3.ensures ∙ (λ i. mul_mat3_vec3 (record { «data» = rotation i }) (c.sub-2.ensures i)) in
-    let mag = rw (c.matmul.ensures, rotation) at c.matmul-2.ensures in
+    let mag = rw (c.matmul-mag.ensures, rotation) at c.matmul.ensures in
     λ i. record { pose = c.compose.ensures i; bias = bias i; lever = lever i; mag = record { «data» = mag i } }

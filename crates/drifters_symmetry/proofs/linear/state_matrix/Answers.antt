@@ -7,7 +7,7 @@ use lib.Ieee.{Float}
 use Rattle.drifters_matrix.specs.Matrix.{set_block, neg_matrix}
 use Rattle.drifters_core.specs.Vec3.{zero_vec3, skew, add_vec3, mul_mat3_vec3}
 use Rattle.drifters_core.specs.declared.math.vec3.Vec3.{Vec3}
-use Rattle.drifters_matrix.specs.declared.math.shapes.Mat3.{Mat3}
+use Rattle.drifters_matrix.specs.Shapes.{Mat3}
 use Rattle.drifters_lie.specs.Lie.{se23_tangent, pi, ad_se3, add_se3, add_se23, adjoint_apply_se23}
 use Rattle.drifters_symmetry.specs.Group.{attitude_offset, velocity_offset, position_offset, gyro_bias_offset, accel_bias_offset, lever_offset, mag_offset}
 use Rattle.drifters_symmetry.specs.Linear.{state_matrix}
@@ -40,26 +40,27 @@ rates : (x : Symmetry) (u : Input) {a s : Mat3} {p q : Vec3} →
     s ≡ skew (add_vec3 (mul_mat3_vec3 x.c.rotation u.omega) x.gamma.omega)
 rates x u e f h k = cc
 
--- c1 to c9 are the places after each block is set, and m1 to m9 what the matrix is there
+-- b is the block of the biases, a3 that of the rate, and m1 to m9 what the matrix is after each block is set
 pub returns : goal.returns
 unfolding state_matrix
 returns c =
     let start = c.args in
-    let m1 = placed 3 velocity_offset attitude_offset c.set_block-m.ensures c.zeros-m.ensures (entries c.skew.ensures) in
-    let m2 = placed 3 position_offset velocity_offset c.set_block-m-2.ensures m1 c.identity.ensures in
-    let m3 = placed 3 attitude_offset gyro_bias_offset c.set_block-m-3.ensures m2 c.identity-2.ensures in
-    let m4 = placed 3 velocity_offset accel_bias_offset c.set_block-m-4.ensures m3 c.identity-3.ensures in
-    let m5 = placed 3 position_offset gyro_bias_offset c.set_block-m-5.ensures m4 (entries c.skew-2.ensures) in
     let b =
     biases start.x start.u start.gravity
     c.new-w.ensures c.new-g.ensures c.adjoint_apply.ensures
-    c.add.ensures c.pi.ensures c.add-2.ensures c.ad.ensures in
-    let m6 = placed 6 gyro_bias_offset gyro_bias_offset c.set_block6-m.ensures m5 b in
+    c.add.ensures c.pi.ensures c.add-2.ensures c.ad-ad.ensures in
     let a3 =
     rates start.x start.u
     c.a.ensures c.mul_vec3.ensures
     c.add-3.ensures c.skew-a3.ensures in
-    let m7 = placed 3 lever_offset lever_offset c.set_block-m-6.ensures m6 (entries a3) in
-    let m8 = placed 3 mag_offset mag_offset c.set_block-m-7.ensures m7 (entries a3) in
-    let m9 = placed 3 mag_offset attitude_offset c.set_block-m-8.ensures m8 (negated c.neg.ensures a3) in
-    placed 3 mag_offset gyro_bias_offset c.set_block.ensures m9 c.identity-4.ensures
+    let one = c.identity-one.ensures in
+    let m1 = placed 3 velocity_offset attitude_offset c.set_block.ensures c.zeros-m.ensures (entries c.skew.ensures) in
+    let m2 = placed 3 position_offset velocity_offset c.set_block-2.ensures m1 one in
+    let m3 = placed 3 attitude_offset gyro_bias_offset c.set_block-3.ensures m2 one in
+    let m4 = placed 3 velocity_offset accel_bias_offset c.set_block-4.ensures m3 one in
+    let m5 = placed 3 position_offset gyro_bias_offset c.set_block-5.ensures m4 (entries c.skew-2.ensures) in
+    let m6 = placed 6 gyro_bias_offset gyro_bias_offset c.set_block-6.ensures m5 b in
+    let m7 = placed 3 lever_offset lever_offset c.set_block-7.ensures m6 (entries a3) in
+    let m8 = placed 3 mag_offset mag_offset c.set_block-8.ensures m7 (entries a3) in
+    let m9 = placed 3 mag_offset attitude_offset c.set_block-9.ensures m8 (negated c.neg.ensures a3) in
+    placed 3 mag_offset gyro_bias_offset c.set_block-10.ensures m9 one

@@ -1,25 +1,22 @@
 -- `bytes::u64s_at` meets its contract.
-use mathlib.Core.Path.{refl, sym}
-use native.Mathlib.Omega.{arith}
-use lib.ListN.{length-set}
-use Rattle.drifters_matrix.proofs.Matrix.Tab.{front_zero, step_set, step_done}
-use Rattle.little_endian.specs.Bytes.{u64s_at}
-use Rattle.little_endian.proofs.bytes.u64s_at.Invariants.{value}
+use Rattle.std.proofs.Common.{◌≡◌, ℕ, ◌+◌, ◌*◌, List, drop, refl, add-one, arith, get_or-drop}
+use Rattle.std.proofs.lemmas.Grind.{common_steps}
+use Rattle.std.proofs.lemmas.List.{take_more_set}
+use Rattle.drifters_matrix.specs.Matrix.{tab}
+use Rattle.little_endian.specs.Bytes.{u64_at, u64s_at}
 use Rattle.little_endian.proofs.bytes.u64s_at.Goals as goal
 
-pub loop-i-preserved : goal.loop-i-preserved
-loop-i-preserved c =
-    let loop = c.loop-i in
-    let args = c.args in
-    let wrote = step_set loop.i (value args.s.now args.at) args.out.now loop.invariant.1.1 (omega arith) c.u64_from.ensures in
-    (omega arith, (simp length-set loop.invariant.1.0, wrote))
-
-pub returns : goal.returns
-unfolding u64s_at
-returns c =
-    let loop = c.loop-i in
-    let args = c.args in
-    step_done loop.i (value args.s.now args.at) args.out.now loop.invariant.1.1 (omega arith)
+-- a number of the bytes from a place on
+u64_from : (s : List ℕ) (at k : ℕ) → u64_at (drop at s) k ≡ u64_at s (at + k)
+u64_from s at k = grind (arith, get_or-drop)
 
 pub loop-i-init : goal.loop-i-init
-loop-i-init c = (omega arith, (refl, sym (front_zero _ _)))
+unfolding u64s_at tab
+loop-i-init c = refl
+
+pub loop-i-preserved : goal.loop-i-preserved
+unfolding u64s_at tab
+loop-i-preserved c =
+    let a = c.args in
+    let rest : c.unwrap_or-rest.result.now ≡ drop a.at a.s.now = grind (arith, common_steps) in
+    rw (take_more_set c.loop-i.out c.loop-i.i _ (omega arith), add-one, c.loop-i.invariant, c.u64_at.ensures, rest, u64_from a.s.now a.at (8 * c.loop-i.i))

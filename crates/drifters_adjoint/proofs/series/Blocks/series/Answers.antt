@@ -23,7 +23,7 @@ loop-k-init c = record { first = omega arith; last = omega arith; term_is = c.id
 pub loop-k-preserved : goal.loop-k-preserved
 unfolding blocks_term blocks_series
 loop-k-preserved c =
-    added_next (λ t s. times_blocks t c.args.m.«data» s) (add_matrix 18) (λ k. refl) (λ k. refl) c.loop-k.invariant (omega arith)
+    added_next (λ t s. times_blocks t c.args.m.columns.«data» s) (add_matrix 18) (λ k. refl) (λ k. refl) c.loop-k.invariant (omega arith)
     (times _ _ _ c.matmul.ensures c.scaled-term.ensures) c.add-psi.ensures
 
 pub returns : goal.returns

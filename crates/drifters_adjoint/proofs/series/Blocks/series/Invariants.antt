@@ -5,7 +5,7 @@ use Rattle.drifters_adjoint.proofs.SeriesLaws.Loop.{Added}
 use Rattle.drifters_adjoint.proofs.series.Blocks.series.Given as goal
 
 abbrev pub invariant-loop-k : goal.invariant-loop-k
-invariant-loop-k l = Added (blocks_term l.m.data) (blocks_series l.m.data) l.k l.term.data l.psi.data
+invariant-loop-k l = Added (blocks_term l.m.columns.data) (blocks_series l.m.columns.data) l.k l.term.columns.data l.psi.columns.data
 
 abbrev pub decreases-loop-k : goal.decreases-loop-k
 decreases-loop-k l = 16 - l.k

@@ -11,8 +11,28 @@ use Rattle.drifters_matrix.proofs.Matrix.Grid.{row_in}
 use Rattle.drifters_cholesky.proofs.SubTerms.{sub_step}
 use Rattle.drifters_cholesky.proofs.Factor.{not_finite_bad, finite_bad, stop, pivot, quotient, factor_rows_next, stops}
 use Rattle.drifters_cholesky.proofs.math.cholesky.cholesky_into.Goals as goal
-use Rattle.drifters_cholesky.proofs.math.cholesky.cholesky_into.Goals.{then-i-j+else-not-is_finite+else-sum, else-i-j, then-not-is_finite-via-then-not-is_finite, then-not-is_finite-via-else-not-is_finite+then-sum}
+use Rattle.drifters_cholesky.proofs.math.cholesky.cholesky_into.Goals.{then-i-j+else-not-is_finite+else-sum, else-i-j, then-not-is_finite-via-then-not-is_finite, then-not-is_finite-via-else-not-is_finite+then-sum, In-loop-k, In-columns, After-loop-k}
 use Rattle.std.proofs.Common.{not, true}
+
+-- the place of entry (i, k) of l
+left_place : (c : In-loop-k) → let a = c.args in Place (c.rows.i * a.n) c.loop-k.k (length c.columns.l)
+left_place c = omega arith
+
+-- that of entry (j, k)
+right_place : (c : In-loop-k) → let a = c.args in Place (c.columns.j * a.n) c.loop-k.k (length c.columns.l)
+right_place c = omega arith
+
+-- the place of entry (i, j) of a
+given_place : (c : In-columns) → let a = c.args in Place (c.rows.i * a.n) c.columns.j (length a.a.now)
+given_place c = omega arith
+
+-- that of entry (i, j) of l
+made_place : (c : In-columns) → let a = c.args in Place (c.rows.i * a.n) c.columns.j (length c.columns.l)
+made_place c = omega arith
+
+-- that of entry (j, j) of l
+pivot_place : (c : After-loop-k) → let a = c.args in Place (c.columns.j * a.n) c.columns.j (length c.columns.l)
+pivot_place c = omega arith
 
 pub rows-init : goal.rows-init
 unfolding factor_rows
@@ -100,73 +120,73 @@ returns-then-not-is_finite c =
     stops a.n a.a.now c.rows.i (omega arith) (ap (λ (m : ℕ). factor_columns a.n a.a.now c.rows.i (m + 1) (factor_rows a.n a.a.now c.rows.i)) p ∙ e)
 
 pub overflow_mul-sum : goal.overflow_mul-sum
-overflow_mul-sum c = (let it : let a = c.args in Place (c.rows.i * a.n) c.columns.j (length a.a.now) = omega arith in it).start
+overflow_mul-sum c = (given_place (goal.at.overflow_mul-sum c).In-columns).start
 
 pub overflow_add-sum : goal.overflow_add-sum
-overflow_add-sum c = (let it : let a = c.args in Place (c.rows.i * a.n) c.columns.j (length a.a.now) = omega arith in it).index
+overflow_add-sum c = (given_place (goal.at.overflow_add-sum c).In-columns).index
 
 pub offset_bounds-a-i : goal.offset_bounds-a-i
-offset_bounds-a-i c = (let it : let a = c.args in Place (c.rows.i * a.n) c.columns.j (length a.a.now) = omega arith in it).offset
+offset_bounds-a-i c = (given_place (goal.at.offset_bounds-a-i c).In-columns).offset
 
 pub bounds-a-i : goal.bounds-a-i
-bounds-a-i c = (let it : let a = c.args in Place (c.rows.i * a.n) c.columns.j (length a.a.now) = omega arith in it).inside
+bounds-a-i c = (given_place (goal.at.bounds-a-i c).In-columns).inside
 
 pub overflow_mul-sum-in-loop-k : goal.overflow_mul-sum-in-loop-k
-overflow_mul-sum-in-loop-k c = (let it : let a = c.args in Place (c.rows.i * a.n) c.loop-k.k (length c.columns.l) = omega arith in it).start
+overflow_mul-sum-in-loop-k c = (left_place (goal.at.overflow_mul-sum-in-loop-k c).In-loop-k).start
 
 pub overflow_add-sum-in-loop-k : goal.overflow_add-sum-in-loop-k
-overflow_add-sum-in-loop-k c = (let it : let a = c.args in Place (c.rows.i * a.n) c.loop-k.k (length c.columns.l) = omega arith in it).index
+overflow_add-sum-in-loop-k c = (left_place (goal.at.overflow_add-sum-in-loop-k c).In-loop-k).index
 
 pub offset_bounds-l-i : goal.offset_bounds-l-i
-offset_bounds-l-i c = (let it : let a = c.args in Place (c.rows.i * a.n) c.loop-k.k (length c.columns.l) = omega arith in it).offset
+offset_bounds-l-i c = (left_place (goal.at.offset_bounds-l-i c).In-loop-k).offset
 
 pub bounds-l-i : goal.bounds-l-i
-bounds-l-i c = (let it : let a = c.args in Place (c.rows.i * a.n) c.loop-k.k (length c.columns.l) = omega arith in it).inside
+bounds-l-i c = (left_place (goal.at.bounds-l-i c).In-loop-k).inside
 
 pub overflow_mul-sum-in-loop-k-2 : goal.overflow_mul-sum-in-loop-k-2
-overflow_mul-sum-in-loop-k-2 c = (let it : let a = c.args in Place (c.columns.j * a.n) c.loop-k.k (length c.columns.l) = omega arith in it).start
+overflow_mul-sum-in-loop-k-2 c = (right_place (goal.at.overflow_mul-sum-in-loop-k-2 c).In-loop-k).start
 
 pub overflow_add-sum-in-loop-k-2 : goal.overflow_add-sum-in-loop-k-2
-overflow_add-sum-in-loop-k-2 c = (let it : let a = c.args in Place (c.columns.j * a.n) c.loop-k.k (length c.columns.l) = omega arith in it).index
+overflow_add-sum-in-loop-k-2 c = (right_place (goal.at.overflow_add-sum-in-loop-k-2 c).In-loop-k).index
 
 pub offset_bounds-l-j : goal.offset_bounds-l-j
-offset_bounds-l-j c = (let it : let a = c.args in Place (c.columns.j * a.n) c.loop-k.k (length c.columns.l) = omega arith in it).offset
+offset_bounds-l-j c = (right_place (goal.at.offset_bounds-l-j c).In-loop-k).offset
 
 pub bounds-l-j : goal.bounds-l-j
-bounds-l-j c = (let it : let a = c.args in Place (c.columns.j * a.n) c.loop-k.k (length c.columns.l) = omega arith in it).inside
+bounds-l-j c = (right_place (goal.at.bounds-l-j c).In-loop-k).inside
 
 pub overflow_mul-l : goal.overflow_mul-l
-overflow_mul-l c = (let it : let a = c.args in Place (c.rows.i * a.n) c.columns.j (length c.columns.l) = omega arith in it).start
+overflow_mul-l c = (made_place (goal.at.overflow_mul-l c).In-columns).start
 
 pub overflow_add-l : goal.overflow_add-l
-overflow_add-l c = (let it : let a = c.args in Place (c.rows.i * a.n) c.columns.j (length c.columns.l) = omega arith in it).index
+overflow_add-l c = (made_place (goal.at.overflow_add-l c).In-columns).index
 
 pub offset_bounds-l-i-then-i-j : goal.offset_bounds-l-i-then-i-j
-offset_bounds-l-i-then-i-j c = (let it : let a = c.args in Place (c.rows.i * a.n) c.columns.j (length c.columns.l) = omega arith in it).offset
+offset_bounds-l-i-then-i-j c = (made_place (goal.at.offset_bounds-l-i-then-i-j c).In-columns).offset
 
 pub bounds-l-i-then-i-j : goal.bounds-l-i-then-i-j
-bounds-l-i-then-i-j c = (let it : let a = c.args in Place (c.rows.i * a.n) c.columns.j (length c.columns.l) = omega arith in it).inside
+bounds-l-i-then-i-j c = (made_place (goal.at.bounds-l-i-then-i-j c).In-columns).inside
 
 pub overflow_mul-l-else-i-j : goal.overflow_mul-l-else-i-j
-overflow_mul-l-else-i-j c = (let it : let a = c.args in Place (c.columns.j * a.n) c.columns.j (length c.columns.l) = omega arith in it).start
+overflow_mul-l-else-i-j c = (pivot_place (goal.at.overflow_mul-l-else-i-j c).After-loop-k).start
 
 pub overflow_add-l-else-i-j : goal.overflow_add-l-else-i-j
-overflow_add-l-else-i-j c = (let it : let a = c.args in Place (c.columns.j * a.n) c.columns.j (length c.columns.l) = omega arith in it).index
+overflow_add-l-else-i-j c = (pivot_place (goal.at.overflow_add-l-else-i-j c).After-loop-k).index
 
 pub offset_bounds-l-j-else-i-j : goal.offset_bounds-l-j-else-i-j
-offset_bounds-l-j-else-i-j c = (let it : let a = c.args in Place (c.columns.j * a.n) c.columns.j (length c.columns.l) = omega arith in it).offset
+offset_bounds-l-j-else-i-j c = (pivot_place (goal.at.offset_bounds-l-j-else-i-j c).After-loop-k).offset
 
 pub bounds-l-j-else-i-j : goal.bounds-l-j-else-i-j
-bounds-l-j-else-i-j c = (let it : let a = c.args in Place (c.columns.j * a.n) c.columns.j (length c.columns.l) = omega arith in it).inside
+bounds-l-j-else-i-j c = (pivot_place (goal.at.bounds-l-j-else-i-j c).After-loop-k).inside
 
 pub overflow_mul-l-else-i-j-2 : goal.overflow_mul-l-else-i-j-2
-overflow_mul-l-else-i-j-2 c = (let it : let a = c.args in Place (c.rows.i * a.n) c.columns.j (length c.columns.l) = omega arith in it).start
+overflow_mul-l-else-i-j-2 c = (made_place (goal.at.overflow_mul-l-else-i-j-2 c).In-columns).start
 
 pub overflow_add-l-else-i-j-2 : goal.overflow_add-l-else-i-j-2
-overflow_add-l-else-i-j-2 c = (let it : let a = c.args in Place (c.rows.i * a.n) c.columns.j (length c.columns.l) = omega arith in it).index
+overflow_add-l-else-i-j-2 c = (made_place (goal.at.overflow_add-l-else-i-j-2 c).In-columns).index
 
 pub offset_bounds-l-i-else-i-j : goal.offset_bounds-l-i-else-i-j
-offset_bounds-l-i-else-i-j c = (let it : let a = c.args in Place (c.rows.i * a.n) c.columns.j (length c.columns.l) = omega arith in it).offset
+offset_bounds-l-i-else-i-j c = (made_place (goal.at.offset_bounds-l-i-else-i-j c).In-columns).offset
 
 pub bounds-l-i-else-i-j : goal.bounds-l-i-else-i-j
-bounds-l-i-else-i-j c = (let it : let a = c.args in Place (c.rows.i * a.n) c.columns.j (length c.columns.l) = omega arith in it).inside
+bounds-l-i-else-i-j c = (made_place (goal.at.bounds-l-i-else-i-j c).In-columns).inside

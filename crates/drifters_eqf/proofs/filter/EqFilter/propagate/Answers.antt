@@ -14,7 +14,7 @@ use Rattle.drifters_covariance.specs.Covariance.{transition, process_noise}
 use Rattle.drifters_eqf.specs.Filter.{turn_fits, nav_state, half_step, midpoint, full_step, propagated_sigma, propagated, propagate}
 use Rattle.drifters_covariance.specs.declared.covariance.ProcessNoise.{ProcessNoise}
 use Rattle.drifters_eqf.specs.declared.filter.EqFilter.{EqFilter}
-use Rattle.drifters_eqf.specs.declared.filter.Answer.TheVariants.{Fine}
+use Rattle.drifters_eqf.specs.Answer.{Fine}
 use Rattle.drifters_real.specs.Scalar.{◌⊗◌, half}
 use Rattle.drifters_symmetry.specs.Group.{default_state, act_state, scaled_algebra}
 use Rattle.drifters_symmetry.specs.Lift.{lift}
@@ -44,7 +44,7 @@ unfolding propagate
 returns-then-not-turn_fits c =
     let estimate = estimate-is c.args.self c.args.u c.args.dt c.default.ensures c.act_state-estimate.ensures in
     let at-half = half-is c.args.self c.args.u c.args.dt estimate c.lift.ensures c.scaled-start.ensures in
-    rw (sym (c.turn_fits.ensures ∙ ap turn_fits at-half) ∙ c.if-not-turn_fits.true) c.refuse.ensures
+    rw (sym (c.turn_fits.ensures ∙ ap turn_fits at-half) ∙ c.if-not-turn_fits.true)
 
 -- ---- the full step, where the turn of the half step fits
 pub returns-then-not-turn_fits-2 : goal.returns-then-not-turn_fits-2
@@ -57,7 +57,7 @@ returns-then-not-turn_fits-2 c =
     rw (
       sym (c.turn_fits.ensures ∙ ap turn_fits at-half) ∙ c.if-not-turn_fits.false,
       sym (c.turn_fits-2.ensures ∙ ap turn_fits full) ∙ c.if-not-turn_fits-2.true,
-    ) c.refuse-then-not-turn_fits-2.ensures
+    )
 
 -- ---- the filter after propagation, where that of the full step fits
 -- from what the calls that make it ensure
@@ -83,7 +83,7 @@ returns c =
     propagated-is c.args.self c.args.u c.args.dt c.args.q
     estimate mid full c.exp-2.ensures c.compose-x.ensures
     c.state_matrix.ensures c.transition-phi.ensures c.process_noise-noise.ensures c.congruence.ensures
-    c.abs.ensures c.add_scaled21.ensures c.symmetrize21.ensures in
+    c.abs.ensures c.add_scaled.ensures c.symmetrize.ensures in
     rw (
       sym (c.turn_fits.ensures ∙ ap turn_fits at-half) ∙ c.if-not-turn_fits.false,
       sym (c.turn_fits-2.ensures ∙ ap turn_fits full) ∙ c.if-not-turn_fits-2.false,

@@ -1,7 +1,7 @@
 -- `Se23::inverse` meets its contract.
 use mathlib.Core.Path.{◌≡◌, ap, ◌∙◌}
 use Rattle.drifters_core.specs.Vec3.{neg_vec3, mul_mat3_vec3}
-use Rattle.drifters_matrix.specs.declared.math.shapes.Mat3.{Mat3}
+use Rattle.drifters_matrix.specs.Shapes.{Mat3}
 use Rattle.drifters_lie.specs.Lie.{inverse_se23, transpose3}
 use Rattle.drifters_lie.proofs.lie.Se23.inverse.Goals as goal
 

@@ -1,6 +1,5 @@
--- `math::real::power_sums` meets its contract. The invariant of its loop is `SumsSoFar`, and the measure what is left of the sixteen passes.
+-- `math::real::power_sums` meets its contract. The invariant of its loop is `SumsSoFar`.
 use Rattle.std.proofs.Common.{ℕ, ◌+◌, ◌*◌, ◌/◌, ◌^◌, ◌<◌, ◌≤◌, refl, ap, ◌∙◌, inl, inr, one-mul, arith, lit≤}
-use mir.Facts.{Fits-below}
 use Rattle.drifters_real.specs.Real.{term}
 use Rattle.drifters_real.specs.Limbs.{value, IsWide}
 use Rattle.drifters_real.proofs.Real.SumLoop.{sp_term, sn_term, cp_term, cn_term, AllSummed, high_small, added, below_48, at_start, at_end, odd_term, even_term, Divisor, divisor}
@@ -59,18 +58,6 @@ loop-i-init c = at_start (value c.args.x)
 pub overflow_add-w : goal.overflow_add-w
 overflow_add-w c = omega (arith, high_small (value c.args.x) (2 * c.loop-i.i) c.loop-i.w c.requires.0 (omega (arith, c.loop-i-test.true)) c.loop-i.invariant.term_is, c.loop-i.invariant.term_is.digits)
 
-pub overflow_mul-k : goal.overflow_mul-k
-overflow_mul-k c = omega (arith, c.loop-i-test.true)
-
-pub overflow_add-k : goal.overflow_add-k
-overflow_add-k c = omega (arith, c.loop-i-test.true)
-
-pub overflow_add-k-in-loop-i : goal.overflow_add-k-in-loop-i
-overflow_add-k-in-loop-i c = omega (arith, c.loop-i-test.true)
-
-pub overflow_mul-k-in-loop-i : goal.overflow_mul-k-in-loop-i
-overflow_mul-k-in-loop-i c = Fits-below tt (first c).most
-
 pub next_term-v-requires : goal.next_term-v-requires
 next_term-v-requires c =
     let a = c in
@@ -81,9 +68,6 @@ add_times-sp-requires c =
     let a = at c in
     let b = below_48 (i a) a.loop-i.sp _ a.loop-i.invariant.count a.loop-i.invariant.sin_plus in
     (b.0, b.1, lit≤ tt, w-high a, a.loop-i.invariant.term_is.digits)
-
-pub overflow_add-k-in-loop-i-2 : goal.overflow_add-k-in-loop-i-2
-overflow_add-k-in-loop-i-2 c = omega (arith, (at c.before).loop-i-test.true)
 
 pub add_times-cp-requires : goal.add_times-cp-requires
 add_times-cp-requires c =
@@ -98,24 +82,12 @@ add_times-sn-requires c =
     let b = below_48 (i a) a.loop-i.sn _ a.loop-i.invariant.count a.loop-i.invariant.sin_minus in
     (b.0, b.1, lit≤ tt, odd-high s, (odd_is s).digits)
 
-pub overflow_add-k-in-loop-i-3 : goal.overflow_add-k-in-loop-i-3
-overflow_add-k-in-loop-i-3 c = omega (arith, (at c.before.before.before).loop-i-test.true)
-
 pub add_times-cn-requires : goal.add_times-cn-requires
 add_times-cn-requires c =
     let s = c.before.before.before in
     let a = at s in
     let b = below_48 (i a) a.loop-i.cn _ a.loop-i.invariant.count a.loop-i.invariant.cos_minus in
     (b.0, b.1, weight a 3 (lit≤ tt), odd-high s, (odd_is s).digits)
-
-pub overflow_add-k-in-loop-i-4 : goal.overflow_add-k-in-loop-i-4
-overflow_add-k-in-loop-i-4 c = omega (arith, (at c.before.before.before.before).loop-i-test.true)
-
-pub overflow_add-k-in-loop-i-5 : goal.overflow_add-k-in-loop-i-5
-overflow_add-k-in-loop-i-5 c = omega (arith, (at c.before.before.before.before).loop-i-test.true)
-
-pub overflow_mul-k-in-loop-i-2 : goal.overflow_mul-k-in-loop-i-2
-overflow_mul-k-in-loop-i-2 c = Fits-below tt (second (at c.before.before.before.before)).most
 
 pub next_term-w-requires : goal.next_term-w-requires
 next_term-w-requires c =
@@ -124,12 +96,6 @@ next_term-w-requires c =
     (omega (arith, odd-high s), (odd_is s).digits, x-high a, a.requires.1, (second a).some, (second a).most)
 
 -- ---- the pass ends
-pub overflow_add-i : goal.overflow_add-i
-overflow_add-i c = omega (arith, (at c.before.before.before.before.before).loop-i-test.true)
-
-pub loop-i-smaller : goal.loop-i-smaller
-loop-i-smaller c = omega (arith, (at c.before.before.before.before.before).loop-i-test.true)
-
 pub loop-i-preserved : goal.loop-i-preserved
 loop-i-preserved c =
     let s = c.before.before.before.before.before in

@@ -15,18 +15,6 @@ whole c = mod-eq_of_lt (lt_of_lt_of_le (sh c).high (lit≤ tt))
 pub overflow_sub-z : goal.overflow_sub-z
 overflow_sub-z c = omega (arith, sh c)
 
-pub overflow_cast-z : goal.overflow_cast-z
-overflow_cast-z c = omega (arith, sh c)
-
-pub overflow_shl-t : goal.overflow_shl-t
-overflow_shl-t c = omega (arith, sh c)
-
-pub overflow_cast-z-then-x-eq0 : goal.overflow_cast-z-then-x-eq0
-overflow_cast-z-then-x-eq0 c = omega (arith, sh c)
-
-pub overflow_sub-z-then-x-eq0 : goal.overflow_sub-z-then-x-eq0
-overflow_sub-z-then-x-eq0 c = omega (arith, sh c)
-
 pub assemble-requires : goal.assemble-requires
 assemble-requires c = omega (arith, sh c, whole c)
 

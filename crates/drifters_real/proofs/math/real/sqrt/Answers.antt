@@ -49,8 +49,5 @@ returns-then-b-ge9218868437227405312 c =
     nan_bits_is binary64 b ∙ ap is_nan (back _ h) ∙ no_nan c.args.x c.if-x.false in
     own _ h 0x7ff0_0000_0000_0000 (le_antisymm (at_most_inf b number below) c.if-b-ge9218868437227405312.true) root_of_inf
 
-pub float_from_bits-result : goal.float_from_bits-result
-float_from_bits-result c = subst (λ (b : Bool). T (not b)) (sym c.root_bits.ensures.number) tt
-
 pub returns : goal.returns
 returns c = c.root_bits.ensures.value ∙ ap sqrt (back _ (subst T (sym c.well_formed.0.1) tt))

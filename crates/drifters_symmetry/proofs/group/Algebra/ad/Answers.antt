@@ -7,13 +7,13 @@ use Rattle.drifters_symmetry.proofs.group.Algebra.ad.Invariants.{column}
 use Rattle.drifters_symmetry.proofs.group.Algebra.ad.Goals as goal
 
 pub loop-k-init : goal.loop-k-init
-loop-k-init c = (omega arith, no_columns 21 21 (column c.args.self))
+loop-k-init c = (omega arith, c.zeros-m.ensures ∙ no_columns 21 21 (column c.args.self))
 
 pub loop-k-preserved : goal.loop-k-preserved
 loop-k-preserved c =
     let k = c.loop-k.k in
     let cols = column c.args.self in
-    let set = rw (c.loop-k.invariant.1, c.bracket_unit.ensures) at c.set_column21.ensures in
+    let set = rw (c.loop-k.invariant.1, c.bracket_unit.ensures) at c.set_column.ensures in
     (omega arith, set ∙ next_column 21 21 k cols (omega arith))
 
 pub returns : goal.returns

@@ -13,7 +13,7 @@ abbrev pub column : Algebra → ℕ → List Float
 column u j = to_array21 (bracket u (from_array21 (unit 21 j)))
 
 abbrev pub invariant-loop-k : goal.invariant-loop-k
-invariant-loop-k l = (l.k ≤ 21) × (l.data ≡ first_columns 21 21 l.k (column l.self))
+invariant-loop-k l = (l.k ≤ 21) × (l.m.data ≡ first_columns 21 21 l.k (column l.self))
 
 abbrev pub decreases-loop-k : goal.decreases-loop-k
 decreases-loop-k l = 21 - l.k

@@ -6,7 +6,7 @@ use Rattle.drifters_symmetry.proofs.group.Symmetry.exp.Goals as goal
 pub returns : goal.returns
 unfolding exp exp_se23
 returns c =
-    let product = rw (c.integrated_adjoint.ensures, c.pi.ensures, c.to_array-bias.ensures) at c.matmul_vector-product.ensures in
+    let product = rw (c.integrated_adjoint.ensures, c.pi.ensures, c.to_array-bias.ensures) at c.matmul-product.ensures in
     let gamma = rw product at c.from_array.ensures in
     let jacobian = c.left_jacobian-jacobian.ensures in
     let delta = rw jacobian at c.mul_vec3.ensures in

@@ -4,14 +4,14 @@ use mathlib.Core.Bool.{true}
 use lib.Ieee.{lt}
 use Rattle.drifters_real.specs.Scalar.{plus_zero}
 use Rattle.drifters_core.specs.Vec3.{normalized}
-use Rattle.drifters_core.specs.declared.math.vec3.Normalized.TheVariants.{Unit}
+use Rattle.std.specs.Prelude.{Some}
 use Rattle.drifters_core.proofs.math.vec3.Vec3.normalized.Goals as goal
 
 pub returns-then-n : goal.returns-then-n
 unfolding normalized
 returns-then-n c =
     let above : lt plus_zero c.norm-n.result ≡ true = c.if-n.true in
-    rw (← c.norm-n.ensures, above) (ap Unit c.div.ensures)
+    rw (← c.norm-n.ensures, above) (ap Some c.div.ensures)
 
 pub returns-else-n : goal.returns-else-n
 unfolding normalized

@@ -1,5 +1,0 @@
--- `entry::position` meets its contract.
-use Rattle.drifters_entry.proofs.entry.position.Goals as goal
-
-pub returns : goal.returns
-returns c = rw (c.vec3_at.ensures, c.symmetry_from_run.ensures) at c.measured_position.ensures

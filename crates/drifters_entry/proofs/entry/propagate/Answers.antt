@@ -1,5 +1,0 @@
--- `entry::propagate` meets its contract.
-use Rattle.drifters_entry.proofs.entry.propagate.Goals as goal
-
-pub returns : goal.returns
-returns c = c.filter_call.ensures

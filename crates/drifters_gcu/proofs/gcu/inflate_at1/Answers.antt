@@ -1,7 +1,0 @@
--- `gcu::inflate_at1` meets its contract.
-use Rattle.drifters_gcu.specs.Gcu.{inflated_by}
-use Rattle.drifters_gcu.proofs.gcu.inflate_at1.Goals as goal
-
-pub returns : goal.returns
-unfolding inflated_by
-returns c = rw (← c.mul_transpose-outer.ensures) c.inflate_in.ensures
