@@ -1,11 +1,9 @@
 -- The laws of the layout: the calls that are found in a file's bytes, the sheet that is read, and the runs that it is read into.
 -- Assumes nothing.
-use Prim.Native.Nat.{ℕ, zero, suc, ◌+◌, ◌-◌, ◌*◌, ◌≤◌, ◌<◌}
+use Prim.Native.Nat.{ℕ, zero, suc, ◌+◌, ◌-◌, ◌*◌, ◌≤◌}
 use mathlib.Core.Path.{◌≡◌, refl, sym, ap, ◌∙◌, subst}
 use mathlib.Core.Bool.{Bool, true, false, ◌&&◌, cond, false≢true}
-use mathlib.Core.List.{List, [], ◌∷◌, ◌++◌, map, append_assoc}
-use native.Mathlib.Nat.{add-zero}
-use native.Mathlib.Numerals.{one-add}
+use mathlib.Core.List.{List, [], ◌∷◌, ◌++◌, append_assoc, append-nil}
 use native.Mathlib.Omega.{arith}
 use borrow.Author.Tests.{eq-eqb, le-leb, eqb-true, leb-true}
 use lib.Dec.{eqb, leb}
@@ -70,42 +68,36 @@ next k i s place cs e = by_offset (eqb (offset_at s i) place) refl e
     by_offset true t e = by_kind (kind_of (kind_at s i)) (eqb-true (offset_at s i) place t) refl e
     by_offset false t e = no_some e
 
--- a loop over the entries i below n: no calls are found
-pub no_calls : (n i : ℕ) (s : List ℕ) (place : ℕ) → i < n → ((cs : List SheetCall) → Next (n - (i + 1)) i s place cs → ⊥)
-    → false ≡ is_some (calls_at (n - i) i s place)
-no_calls n i s place h never = rw step (go (calls_at (suc (n - (i + 1))) i s place) refl)
+-- no calls are found
+pub no_calls : (k i : ℕ) (s : List ℕ) (place : ℕ) → ((cs : List SheetCall) → Next k i s place cs → ⊥) → calls_at (suc k) i s place ≡ None
+no_calls k i s place never = go (calls_at (suc k) i s place) refl
   where
-    step : n - i ≡ suc (n - (i + 1))
-    step = omega arith
-
-    go : (o : Option (List SheetCall)) → calls_at (suc (n - (i + 1))) i s place ≡ o → false ≡ is_some o
+    go : (o : Option (List SheetCall)) → calls_at (suc k) i s place ≡ o → o ≡ None
     go None e = refl
-    go (Some cs) e = absurd (never cs (next (n - (i + 1)) i s place cs e))
+    go (Some cs) e = absurd (never cs (next k i s place cs e))
+
+-- some kinds, and those of the calls that are found after them
+abbrev pub kinds_with : List Kind → Option (List SheetCall) → Option (List Kind)
+kinds_with ks o = option_map (λ cs. ks ++ kinds_of cs) o
 
 -- one more is found, of a kind, and it has m numbers
-pub calls_step : (n i : ℕ) (s : List ℕ) (place : ℕ) {kind : Kind} {m : ℕ} → i < n → kind_of (kind_at s i) ≡ Some kind → offset_at s i ≡ place → m ≡ call_length kind
-    → is_some (calls_at (n - i) i s place) ≡ is_some (calls_at (n - (i + 1)) (i + 1) s (place + 8 * m))
-unfolding calls_at
-calls_step n i s place {kind} {m} h found p l =
-    rw (step, eq-eqb (offset_at s i) place p, found, l) (go (calls_at (n - (i + 1)) (i + 1) s (place + 8 * call_length kind)))
+pub calls_step : (k i : ℕ) (s : List ℕ) (place : ℕ) (ks : List Kind) {kind : Kind} {m : ℕ} → kind_of (kind_at s i) ≡ Some kind → offset_at s i ≡ place → m ≡ call_length kind
+    → kinds_with ks (calls_at (suc k) i s place) ≡ kinds_with (ks ++ (kind ∷ [])) (calls_at k (i + 1) s (place + 8 * m))
+unfolding calls_at kinds_of
+calls_step k i s place ks {kind} {m} found p l =
+    rw (eq-eqb (offset_at s i) place p, found, l) (go (calls_at k (i + 1) s (place + 8 * call_length kind)))
   where
-    step : n - i ≡ suc (n - (i + 1))
-    step = omega arith
-
-    go : (o : Option (List SheetCall)) → is_some (with_call (sheet_call kind (u64s_at (call_length kind) s place)) o) ≡ is_some o
+    go : (o : Option (List SheetCall)) → kinds_with ks (with_call (sheet_call kind (u64s_at (call_length kind) s place)) o) ≡ kinds_with (ks ++ (kind ∷ [])) o
     go None = refl
-    go (Some cs) = refl
+    go (Some cs) = ap Some (sym (append_assoc ks (kind ∷ []) (kinds_of cs)))
 
 -- after the last entry the file ends
-pub calls_end : (n i : ℕ) (s : List ℕ) (place : ℕ) → n ≤ i → is_some (calls_at (n - i) i s place) ≡ eqb place (length s)
-unfolding calls_at
-calls_end n i s place h = rw none_left (go (eqb place (length s)))
+pub calls_end : (i : ℕ) (s : List ℕ) (place : ℕ) (ks : List Kind) → kinds_with ks (calls_at 0 i s place) ≡ then_some (eqb place (length s)) ks
+unfolding calls_at kinds_of
+calls_end i s place ks = go (eqb place (length s))
   where
-    none_left : n - i ≡ 0
-    none_left = omega arith
-
-    go : (b : Bool) → is_some {A = List SheetCall} (cond b (Some []) None) ≡ b
-    go true = refl
+    go : (b : Bool) → kinds_with ks (cond b (Some []) None) ≡ then_some b ks
+    go true = ap Some (append-nil ks)
     go false = refl
 
 -- ---- all calls
@@ -121,16 +113,10 @@ pub length_u64s : (n : ℕ) (s : List ℕ) (p : ℕ) → length (u64s_at n s p) 
 unfolding u64s_at
 length_u64s n s p = length_tab n _
 
--- the first of a table's entries, and the others
-tab_first : {A : Type 0} (n : ℕ) (f : ℕ → A) → tab (suc n) f ≡ f 0 ∷ tab n (λ j. f (1 + j))
-unfolding tab
-tab_first n f = ap (λ (m : ℕ). tab m f) (sym (one-add n)) ∙ tab_add 1 n f
-
--- what k calls are that are found from entry i on, the first body at a place: their kinds are those of the table's numbers, their bits one after another are the
--- numbers from that place to the end of the file, and from these they come back
+-- what k calls are that are found from entry i on, the first body at a place: their bits one after another are the numbers from that place to the end of the
+-- file, and from these they come back
 pub record Calls (k i : ℕ) (s : List ℕ) (place : ℕ) (cs : List SheetCall) : Type 0 where
   pub count : length cs ≡ k
-  pub kinds : map (λ kind. Some kind) (kinds_of cs) ≡ tab k (λ j. kind_of (kind_at s (i + j)))
   pub bits : bits_of cs ≡ u64s_at (length (bits_of cs)) s place
   pub ends : place + 8 * length (bits_of cs) ≡ length s
   pub back : (others : List ℕ) → calls_in (kinds_of cs) (bits_of cs ++ others) ≡ Some cs
@@ -138,10 +124,10 @@ pub record Calls (k i : ℕ) (s : List ℕ) (place : ℕ) (cs : List SheetCall) 
 -- no entry is left
 none_found : (i : ℕ) (s : List ℕ) (place : ℕ) → place ≡ length s → Calls 0 i s place []
 unfolding kinds_of bits_of calls_in u64s_at tab
-none_found i s place e = record { count = refl; kinds = refl; bits = refl; ends = omega (arith, e); back = λ others. refl }
+none_found i s place e = record { count = refl; bits = refl; ends = omega (arith, e); back = λ others. refl }
 
 -- a call before others
-module _ (k i : ℕ) (s : List ℕ) (place : ℕ) (kind : Kind) (rest : List SheetCall) (is_kind : kind_of (kind_at s i) ≡ Some kind)
+module _ (k i : ℕ) (s : List ℕ) (place : ℕ) (kind : Kind) (rest : List SheetCall)
     (after : Calls k (i + 1) s (place + 8 * call_length kind) rest) where
   one_found : Calls (suc k) i s place (sheet_call kind (u64s_at (call_length kind) s place) ∷ rest)
   unfolding kinds_of bits_of calls_in
@@ -151,11 +137,8 @@ module _ (k i : ℕ) (s : List ℕ) (place : ℕ) (kind : Kind) (rest : List She
       let later = bits_of rest in
       let size : length here ≡ n = length_u64s n s place in
       let total : length (here ++ later) ≡ n + length later = length-append here later ∙ ap (λ (m : ℕ). m + length later) size in
-      let entry : (j : ℕ) → i + 1 + j ≡ i + (1 + j) = λ j. omega arith in
-      let first : Some kind ≡ kind_of (kind_at s (i + 0)) = sym is_kind ∙ ap (λ (m : ℕ). kind_of (kind_at s m)) (sym (add-zero i)) in
       record {
         count = ap suc after.count;
-        kinds = (λ t. first t ∷ (after.kinds ∙ (λ u. tab k (λ j. kind_of (kind_at s (entry j u))))) t) ∙ sym (tab_first k (λ j. kind_of (kind_at s (i + j))));
         bits = ap (λ (l : List ℕ). here ++ l) after.bits ∙ sym (u64s_add n (length later) s place) ∙ ap (λ (m : ℕ). u64s_at m s place) (sym total);
         ends = omega (arith, total, after.ends);
         back = λ others.
@@ -177,7 +160,7 @@ calls_found zero i s place cs e = go (eqb place (length s)) refl e
 calls_found (suc k) i s place cs e =
     let n = next k i s place cs e in
     subst (λ (l : List SheetCall). Calls (suc k) i s place l) n.is
-    (one_found k i s place n.kind n.rest n.is_kind (calls_found k (i + 1) s (place + 8 * call_length n.kind) n.rest n.found))
+    (one_found k i s place n.kind n.rest (calls_found k (i + 1) s (place + 8 * call_length n.kind) n.rest n.found))
 
 -- ---- the sheet
 
@@ -201,10 +184,6 @@ all_true true true true false e p = absurd (false≢true p)
 all_true true true false d e p = absurd (false≢true p)
 all_true true false c d e p = absurd (false≢true p)
 all_true false b c d e p = absurd (false≢true p)
-
--- how many entries a sheet has; None where there is none
-abbrev pub entries_of : List ℕ → Option ℕ
-entries_of s = option_map (λ sheet. count_of s) (read_sheet s)
 
 module _ (s : List ℕ) where
   -- the tests hold, by the facts and back
@@ -236,54 +215,47 @@ module _ (s : List ℕ) where
       fitting true t e = whole (calls_at (count_of s - 1) 1 s (filter_end (count_of s))) (tested t) refl e
       fitting false t e = no_some e
 
-  some_calls : Header s (count_of s) → is_some (read_sheet s) ≡ is_some (calls_at (count_of s - 1) 1 s (filter_end (count_of s)))
-  unfolding read_sheet
-  some_calls h = rw (header_fits_lem h) (go (calls_at (count_of s - 1) 1 s (filter_end (count_of s))))
-    where
-      go : (o : Option (List SheetCall)) → is_some (sheet_with (u64s_at filter_length s (table_bytes (count_of s))) o) ≡ is_some o
-      go None = refl
-      go (Some cs) = refl
-
   -- the same laws, where n is the count
   module _ {n : ℕ} (counted : n ≡ count_of s) where
     pub sheet_read : (sheet : Sheet) → read_sheet s ≡ Some sheet → Read s n sheet
     sheet_read sheet e = subst (λ (m : ℕ). Read s m sheet) (sym counted) (read sheet e)
 
+    pub header_tested : header_fits s ≡ true → Header s n
+    header_tested h = subst (λ (m : ℕ). Header s m) (sym counted) (tested h)
+
+    pub header_holds : Header s n → header_fits s ≡ true
+    header_holds h = header_fits_lem (subst (λ (m : ℕ). Header s m) counted h)
+
     -- no sheet is read
-    pub no_sheet : ((sheet : Sheet) → Read s n sheet → ⊥) → None ≡ entries_of s
+    pub no_sheet : ((sheet : Sheet) → Read s n sheet → ⊥) → read_sheet s ≡ None
     no_sheet never = go (read_sheet s) refl
       where
-        go : (o : Option Sheet) → read_sheet s ≡ o → None ≡ option_map (λ sheet. count_of s) o
+        go : (o : Option Sheet) → read_sheet s ≡ o → o ≡ None
         go None e = refl
         go (Some sheet) e = absurd (never sheet (sheet_read sheet e))
 
     -- past its header a sheet is read where its calls are found
-    pub sheet_calls : {b : Bool} → Header s n → b ≡ is_some (calls_at (n - 1) 1 s (filter_end n)) → then_some b n ≡ entries_of s
-    sheet_calls {b} h e =
-        go b (read_sheet s)
-        (e ∙ ap (λ (m : ℕ). is_some (calls_at (m - 1) 1 s (filter_end m))) counted ∙ sym (some_calls (subst (λ (m : ℕ). Header s m) counted h)))
+    read_calls : header_fits s ≡ true → read_sheet s ≡ sheet_with (u64s_at filter_length s (table_bytes n)) (calls_at (n - 1) 1 s (filter_end n))
+    unfolding read_sheet
+    read_calls h = rw (h, counted)
+
+    -- the sheet, by the kinds of its calls
+    pub sheet_found : {ks : List Kind} → header_fits s ≡ true → Some ks ≡ option_map kinds_of (calls_at (n - 1) 1 s (filter_end n))
+        → (sheet : Sheet) × (read_sheet s ≡ Some sheet) × (ks ≡ kinds_of sheet.calls)
+    sheet_found {ks} h e = go (calls_at (n - 1) 1 s (filter_end n)) (read_calls h) e
       where
-        go : (b : Bool) (o : Option Sheet) → b ≡ is_some o → then_some b n ≡ option_map (λ sheet. count_of s) o
-        go true None e = absurd (false≢true (sym e))
-        go false None e = refl
-        go true (Some sheet) e = ap Some counted
-        go false (Some sheet) e = absurd (false≢true e)
+        go : (o : Option (List SheetCall)) → read_sheet s ≡ sheet_with (u64s_at filter_length s (table_bytes n)) o → Some ks ≡ option_map kinds_of o
+            → (sheet : Sheet) × (read_sheet s ≡ Some sheet) × (ks ≡ kinds_of sheet.calls)
+        go None r e = no_some (sym e)
+        go (Some cs) r e = (record { filter = u64s_at filter_length s (table_bytes n); calls = cs }, r, same_Some ks (kinds_of cs) e)
 
--- the sheet that is read, where there are entries, and their count
-pub sheet_found : (s : List ℕ) {n : ℕ} → Some n ≡ entries_of s → (sheet : Sheet) × (read_sheet s ≡ Some sheet) × (n ≡ count_of s)
-sheet_found s {n} e = go (read_sheet s) refl e
-  where
-    go : (o : Option Sheet) → read_sheet s ≡ o → Some n ≡ option_map (λ sheet. count_of s) o → (sheet : Sheet) × (read_sheet s ≡ Some sheet) × (n ≡ count_of s)
-    go None r e = no_some (sym e)
-    go (Some sheet) r e = (sheet, r, same_Some n (count_of s) e)
-
--- and where there are none
-pub sheet_none : (s : List ℕ) → None ≡ entries_of s → read_sheet s ≡ None
-sheet_none s e = go (read_sheet s) e
-  where
-    go : (o : Option Sheet) → None ≡ option_map (λ sheet. count_of s) o → o ≡ None
-    go None e = refl
-    go (Some sheet) e = no_some e
+    -- and where there are none
+    pub sheet_none : header_fits s ≡ true → None ≡ option_map kinds_of (calls_at (n - 1) 1 s (filter_end n)) → read_sheet s ≡ None
+    sheet_none h e = go (calls_at (n - 1) 1 s (filter_end n)) (read_calls h) e
+      where
+        go : (o : Option (List SheetCall)) → read_sheet s ≡ sheet_with (u64s_at filter_length s (table_bytes n)) o → None ≡ option_map kinds_of o → read_sheet s ≡ None
+        go None r e = r
+        go (Some cs) r e = no_some e
 
 -- ---- the sheet in lent runs
 

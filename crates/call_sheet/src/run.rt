@@ -12,12 +12,13 @@ use crate::text::{put, put_answer, put_line};
 use drifters_entry::entry::{FILTER_LENGTH, call};
 use drifters_eqf::answer::{Answer, Refusal};
 use drifters_kind::kind::{Kind, MOST_CALL_NUMBERS, STATE_LENGTH};
-use little_endian::bits::numbers_of;
+use little_endian::bits::{number_of, numbers_of};
 
 // Room for every sheet's text: 23 bytes for each of 255 calls.
 pub const MOST_TEXT: usize = 5865;
 
-// Runs a sheet and writes the text of its answers to the front of `text`. Answers the text's length.
+// Runs a sheet and writes the text of its answers to the front of `text`. Answers the text's length. A lent run, since the library has no heap for a
+// text that is returned.
 pub fn run_sheet(s: &[u8], text: &mut [u8]) -> Result<usize, Refusal>
     ensures { printed result text.new ≡ print_into s.now text.old }
 {
@@ -29,8 +30,7 @@ pub fn run_sheet(s: &[u8], text: &mut [u8]) -> Result<usize, Refusal>
     let mut numbers = [0u64; MOST_NUMBERS];
     match read_sheet(s, &mut filter, &mut kinds, &mut numbers) {
         Ok(n) => {
-            let mut run = [0.0; FILTER_LENGTH];
-            numbers_of(&filter, &mut run);
+            let mut run = filter.map(number_of);
             Ok(run_calls(&mut run, &kinds[..n], &numbers, text))
         }
         Err(refusal) => Ok(put_refused(text, refusal)),
@@ -54,9 +54,8 @@ fn put_refused(text: &mut [u8], refusal: Refusal) -> usize
     put(text, end, b"\n")
 }
 
-// Makes the calls in turn, each on the filter that the one before it left, and writes their lines to the front of `text`. Kinds and numbers
-// stand in two runs: there is no heap for a list of calls of different lengths. Answers the length of
-// these.
+// Makes the calls in turn, each on the filter that the one before it left, and writes their lines to the front of `text`. Answers the length of
+// these. Kinds and numbers stand in two runs: there is no heap for a list of calls of different lengths.
 fn run_calls(run: &mut [f64], kinds: &[Kind], numbers: &[u64], text: &mut [u8]) -> usize
     requires { (is_some (calls_in kinds.now numbers.now) ≡ true) × (23 * length kinds.now ≤ length text.old) }
     ensures { (result ≡ length (lines_of run.old (calls_in kinds.now numbers.now))) × (text.new ≡ placed text.old 0 (lines_of run.old (calls_in kinds.now numbers.now))) }
@@ -72,7 +71,7 @@ fn run_calls(run: &mut [f64], kinds: &[Kind], numbers: &[u64], text: &mut [u8]) 
     length
 }
 
-// Makes a call whose numbers are given by their bits; what a state call writes is not printed.
+// Makes a call whose numbers are given by their bits; what a state call writes is not printed. The arrays hold the most of any kind: there is no heap.
 fn run_call(kind: Kind, run: &mut [f64], bits: &[u64]) -> Answer
     requires { length bits.now ≡ call_length kind }
     ensures { (answer_of result ≡ (outcome_on run.old (call_of (sheet_call kind bits.now))).answer) × (run.new ≡ (outcome_on run.old (call_of (sheet_call kind bits.now))).run) }

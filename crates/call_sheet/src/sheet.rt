@@ -1,8 +1,6 @@
 // The layout of a call sheet, and the runs that it is read into. A table of n entries ends at 4 + 8 * n: the count, and eight bytes for each.
-ghost use Rattle.std.specs.Prelude.{◌≡◌, ◌+◌, ◌-◌, ◌*◌, ◌≤◌, ◌<◌, true, ℕ, length, map, option_map};
-ghost use Rattle.drifters_matrix.specs.Matrix.{tab};
-ghost use Rattle.drifters_kind.specs.Kind.{kind_of};
-ghost use Rattle.call_sheet.specs.Sheet.{most_entries, count_of, kind_at, filter_end, calls_at, read_sheet, is_some, runs, read_into};
+ghost use Rattle.std.specs.Prelude.{◌≡◌, ◌-◌, ◌≤◌, true, length, take, None, MatchOption, option_map};
+ghost use Rattle.call_sheet.specs.Sheet.{most_entries, count_of, filter_end, header_fits, calls_at, kinds_of, read_sheet, runs, read_into};
 
 use drifters_entry::entry::FILTER_LENGTH;
 use drifters_eqf::answer::Refusal;
@@ -22,7 +20,7 @@ pub const MOST_CALLS: usize = 255;
 pub const MOST_NUMBERS: usize = 8192;
 
 // Reads a sheet: the bits of its filter, the kinds of its calls, and the bits of their numbers one after another, as many as each kind has
-// (`Kind::call_length`). Answers how many calls it has.
+// (`Kind::call_length`). Answers how many calls it has. Three lent runs and a count: the library has no heap for a list of calls.
 pub fn read_sheet(
     s: &[u8],
     filter: &mut [u64],
@@ -35,17 +33,18 @@ pub fn read_sheet(
         return Err(Refusal::Length);
     }
     let n = entries(s).ok_or(Refusal::Sheet)?;
+    let found = call_kinds(s, n).ok_or(Refusal::Sheet)?;
     u64s_at(s, 4 + 8 * n, filter);
-    read_kinds(s, &mut kinds[..n - 1]);
+    kinds[..n - 1].copy_from_slice(&found[..n - 1]);
     let end = 4 + 8 * n + 8 * FILTER_LENGTH;
     let m = (s.len() - end) / 8;
     u64s_at(s, end, &mut numbers[..m]);
     Ok(n - 1)
 }
 
-// How many entries a sheet has; None where the bytes are no sheet.
+// How many entries a sheet has; None where count or size is out of range, or entry 0 is no filter right after the table.
 fn entries(s: &[u8]) -> Option<usize>
-    ensures { result ≡ option_map (λ sheet. count_of s.now) (read_sheet s.now) }
+    ensures { MatchOption result (read_sheet s.now ≡ None) (λ n. (n ≡ count_of s.now) × (header_fits s.now ≡ true) × (filter_end n ≤ length s.now)) }
 {
     if s.len() < 4 || MOST_BYTES < s.len() {
         return None;
@@ -60,35 +59,25 @@ fn entries(s: &[u8]) -> Option<usize>
     if u32_at(s, 4) != 0 || u32_at(s, 8) as usize != 4 + 8 * n {
         return None;
     }
-    calls_fit(s, n).then_some(n)
+    Some(n)
 }
 
-// Whether the entries after the filter are calls whose bodies follow each other to the end of the file.
-fn calls_fit(s: &[u8], n: usize) -> bool
+// The kinds of the calls after the filter, at the front of the array; None where the entries are no calls whose bodies follow each other to the end
+// of the file. An array of the most calls, of which n - 1 count: there is no heap. The table is read by the index, since after a `zip` with `iter_mut`
+// nothing is known of what was written.
+fn call_kinds(s: &[u8], n: usize) -> Option<[Kind; MOST_CALLS]>
     requires { (1 ≤ n) × (n ≤ most_entries) × (filter_end n ≤ length s.now) }
-    ensures { result ≡ is_some (calls_at (n - 1) 1 s.now (filter_end n)) }
+    ensures { option_map (λ kinds. take (n - 1) kinds) result ≡ option_map kinds_of (calls_at (n - 1) 1 s.now (filter_end n)) }
 {
+    let mut kinds = [Kind::State; MOST_CALLS];
     let mut place = 4 + 8 * n + 8 * FILTER_LENGTH;
-    for i in 1..n {
-        let Some(kind) = Kind::from_number(u32_at(s, 4 + 8 * i)) else {
-            return false;
-        };
-        let offset = u32_at(s, 8 + 8 * i) as usize;
+    for (i, kind) in kinds[..n - 1].iter_mut().enumerate() {
+        *kind = Kind::try_from(u32_at(s, 12 + 8 * i)).ok()?;
+        let offset = u32_at(s, 16 + 8 * i) as usize;
         if offset != place {
-            return false;
+            return None;
         }
         place += 8 * kind.call_length();
     }
-    place == s.len()
-}
-
-// The kinds of the calls, as the table has them.
-fn read_kinds(s: &[u8], kinds: &mut [Kind])
-    requires bytes { 12 + 8 * length kinds.old ≤ length s.now }
-    requires known { (i : ℕ) → i < length kinds.old → is_some (kind_of (kind_at s.now (1 + i))) ≡ true }
-    ensures { map (λ kind. Some kind) kinds.new ≡ tab (length kinds.old) (λ i. kind_of (kind_at s.now (1 + i))) }
-{
-    for (i, kind) in kinds.iter_mut().enumerate() {
-        *kind = Kind::from_number(u32_at(s, 12 + 8 * i)).unwrap();
-    }
+    (place == s.len()).then_some(kinds)
 }

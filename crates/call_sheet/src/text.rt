@@ -14,7 +14,8 @@ use little_endian::bits::bits_of;
 // The most bytes of an answer's text.
 pub const MOST_ANSWER: usize = 16;
 
-// The text of an answer, to the front of `bytes`, of which the others stay. Answers its length.
+// The text of an answer, to the front of `bytes`, of which the others stay. Answers its length. No `Display`: its contract says what is written where
+// it answers `Ok`, and not that it does, and here each byte is promised.
 pub fn answer_text(answer: Answer, bytes: &mut [u8; MOST_ANSWER]) -> usize
     ensures { (result ≡ length (answer_text (answer_of answer))) × ((bytes.new ≡ placed bytes.old 0 (answer_text (answer_of answer))) × (result ≤ 16)) }
 {

@@ -8,16 +8,13 @@ use drifters_eqf::answer::Answer;
 use drifters_kind::kind::{Kind, STATE_LENGTH};
 use std::io;
 
-// The last number of a start: gravity downwards.
-const LAST: usize = START_LENGTH - 1;
+// Where gravity begins in a start, after its covariance.
+const GRAVITY: usize = START_LENGTH - 3;
 
 // The last number of a filter: alpha.
 const ALPHA: usize = FILTER_LENGTH - 1;
 
-// What is refused as not finite.
-const INFINITE: f64 = 1.0 / 0.0;
-
-// The name of a kind of call.
+// The name of a kind of call. `Kind` is another crate's, so that no `Display` of it may stand here.
 fn name_of(kind: Kind) -> &'static str {
     match kind {
         Kind::Propagate => "propagate",
@@ -30,7 +27,7 @@ fn name_of(kind: Kind) -> &'static str {
     }
 }
 
-// A line: what was called, and its answer.
+// A line: what was called, and its answer, whose text is bytes and so is no part of a format.
 fn report(rt: &impl Print, called: &str, answer: Answer) -> io::Result<()> {
     let mut bytes = [0; MOST_ANSWER];
     print!(rt; "{called} ")?;
@@ -53,11 +50,10 @@ fn start_numbers() -> [f64; START_LENGTH] {
     v[24] = 1.0;
     v[28] = 1.0;
     v[32] = 1.0;
-    // By index: the diagonal is each 22nd place.
-    for i in 0..21 {
-        v[STATE_LENGTH + 22 * i] = 1.0;
+    for x in v[STATE_LENGTH..GRAVITY].iter_mut().step_by(22) {
+        *x = 1.0;
     }
-    v[LAST] = 9.81;
+    v[GRAVITY + 2] = 9.81;
     v
 }
 
@@ -161,7 +157,7 @@ fn refusals(rt: &impl Print, run: &mut [f64]) -> io::Result<()> {
         rt,
         Kind::Propagate,
         run,
-        &propagation(INFINITE, 0.01, 0.001),
+        &propagation(f64::INFINITY, 0.01, 0.001),
     )?;
     call(rt, Kind::Propagate, run, &propagation(2000.0, 0.01, 0.001))?;
     call(rt, Kind::Position, run, &position(-100.0))?;
@@ -173,7 +169,7 @@ fn refusals(rt: &impl Print, run: &mut [f64]) -> io::Result<()> {
 // Those of a scalar update, but for the turn: too few numbers, an innovation that is infinite, a variance below 0, a NIS that overflows.
 fn scalar_refusals(rt: &impl Print, run: &mut [f64]) -> io::Result<()> {
     call(rt, Kind::Scalar, run, &pair())?;
-    call(rt, Kind::Scalar, run, &scalar(INFINITE, 0.25))?;
+    call(rt, Kind::Scalar, run, &scalar(f64::INFINITY, 0.25))?;
     call(rt, Kind::Scalar, run, &scalar(0.01, -100.0))?;
     call(rt, Kind::Scalar, run, &scalar(1.0e154, 0.01))
 }

@@ -5,17 +5,13 @@ use Rattle.std.specs.Float.Ieee.{lt, of_bits, of_int}
 use Rattle.drifters_real.specs.Scalar.{◌⊘◌, one, two, half}
 use Rattle.drifters_real.specs.Real.{max}
 use Rattle.drifters_matrix.specs.Matrix.{matmul, scaled, identity, add_matrix}
-use Rattle.drifters_core.specs.Vec3.{amax_vec3, mul_vec3}
-use Rattle.drifters_lie.specs.Lie.{se3_tangent, ad_se3, adjoint_se3, exp_se3}
+use Rattle.drifters_core.specs.Vec3.{amax_vec3}
+use Rattle.drifters_lie.specs.Lie.{scaled_se3, ad_se3, adjoint_se3, exp_se3}
 use Rattle.drifters_lie.specs.declared.lie.Se3Tangent.{Se3Tangent}
 
 -- 0.0625: what the larger `amax` is brought down to
 abbrev pub sixteenth : Float
 sixteenth = of_bits binary64 0x3fb0_0000_0000_0000
-
--- both parts times s
-abbrev pub scaled_se3 : Se3Tangent → Float → Se3Tangent
-scaled_se3 w s = se3_tangent (mul_vec3 w.omega s) (mul_vec3 w.nu s)
 
 -- how often w is halved, at most n times: while the larger `amax` is above 0.0625
 unfoldable pub halvings : ℕ → Se3Tangent → ℕ

@@ -1,4 +1,6 @@
 // Port of `integrated_adjoint` of lie.rs: halved, summed by its series, doubled back.
+#![tactic(auto, unfolding(crate::specs::Adjoint::integrated_adjoint))]
+
 ghost use Rattle.std.specs.Prelude.{◌≡◌};
 ghost use Rattle.drifters_adjoint.specs.Adjoint.{most_halvings, halvings, halved, doubled, integrated_adjoint};
 
@@ -17,7 +19,7 @@ struct Halved {
     halvings: usize,
 }
 
-// Halved while the larger `amax` is above 0.0625, at most MOST_HALVINGS times.
+// Halved while the larger `amax` is above 0.0625, at most MOST_HALVINGS times; not where it is NaN.
 fn halve(v: Se3Tangent) -> Halved
     ensures { (result.halvings ≡ halvings most_halvings v) × (result.w ≡ halved (halvings most_halvings v) v) }
 {
@@ -26,7 +28,7 @@ fn halve(v: Se3Tangent) -> Halved
         if !(max(w.omega.amax(), w.nu.amax()) > 0.0625) {
             return Halved { w, halvings: n };
         }
-        w = Se3Tangent::new(w.omega.mul(0.5), w.nu.mul(0.5));
+        w = w.scaled(0.5);
     }
     Halved {
         w,
@@ -34,16 +36,16 @@ fn halve(v: Se3Tangent) -> Halved
     }
 }
 
-// psi of w, doubled back over n halvings.
-fn double(n: usize, w: Se3Tangent, psi: Mat6) -> Mat6
-    ensures { result.data ≡ doubled n w psi.data }
+// psi of the halved element, doubled back over its halvings.
+fn double(h: Halved, psi: Mat6) -> Mat6
+    ensures { result.data ≡ doubled h.halvings h.w psi.data }
 {
-    let mut v = w;
+    let mut v = h.w;
     let mut out = psi;
-    for _ in 0..n {
+    for _ in 0..h.halvings {
         let step: Mat6 = Mat6::identity().add(Se3::exp(v).adjoint()).matmul(&out);
         out = step.scaled(0.5);
-        v = Se3Tangent::new(v.omega.mul(2.0), v.nu.mul(2.0));
+        v = v.scaled(2.0);
     }
     out
 }
@@ -53,5 +55,5 @@ pub fn integrated_adjoint(v: Se3Tangent) -> Mat6
     ensures { result.data ≡ integrated_adjoint v }
 {
     let h = halve(v);
-    double(h.halvings, h.w, sum_series(h.w))
+    double(h, sum_series(h.w))
 }

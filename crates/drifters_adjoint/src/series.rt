@@ -6,7 +6,7 @@ ghost use Rattle.drifters_adjoint.specs.Adjoint.{series};
 ghost use Rattle.drifters_adjoint.specs.Series.{whole, identity_blocks, ad_blocks, product_at, add_terms, blocks_series};
 
 use drifters_lie::lie::Se3Tangent;
-use drifters_matrix::math::matrix::{Mat6, Matrix};
+use drifters_matrix::math::matrix::{Mat3, Mat6, Matrix};
 
 // The identity, and the terms 1 to 15 of the series of m added to it. `Blocks::series` is the same loop: a trait over both types would take four
 // methods and what each gives, twice, which is longer than the second loop.
@@ -42,11 +42,8 @@ impl Blocks {
     fn identity() -> Blocks
         ensures { result.columns.data ≡ identity_blocks }
     {
-        let mut data = [0.0; 18];
-        data[0] = 1.0;
-        data[4] = 1.0;
-        data[8] = 1.0;
-        let columns = Matrix { data };
+        let mut columns = Matrix::zeros();
+        columns.set_block(0, 0, &Mat3::identity());
         Blocks { columns }
     }
 
@@ -54,13 +51,9 @@ impl Blocks {
     fn ad(w: Se3Tangent) -> Blocks
         ensures { result.columns.data ≡ ad_blocks w }
     {
-        let o = w.omega;
-        let n = w.nu;
-        let data = [
-            0.0, -o.z, o.y, o.z, 0.0, -o.x, -o.y, o.x, 0.0, 0.0, -n.z, n.y, n.z, 0.0, -n.x, -n.y,
-            n.x, 0.0,
-        ];
-        let columns = Matrix { data };
+        let mut columns = Matrix::zeros();
+        columns.set_block(0, 0, &w.omega.skew());
+        columns.set_block(3, 0, &w.nu.skew());
         Blocks { columns }
     }
 
@@ -68,14 +61,11 @@ impl Blocks {
     fn whole(self) -> Mat6
         ensures { result.data ≡ whole self.columns.data }
     {
-        let t = self.columns.data;
-        Mat6 {
-            data: [
-                t[0], t[1], t[2], 0.0, 0.0, 0.0, t[3], t[4], t[5], 0.0, 0.0, 0.0, t[6], t[7], t[8],
-                0.0, 0.0, 0.0, t[9], t[10], t[11], t[0], t[1], t[2], t[12], t[13], t[14], t[3],
-                t[4], t[5], t[15], t[16], t[17], t[6], t[7], t[8],
-            ],
-        }
+        let upper: Mat3 = self.columns.block(0, 0);
+        let mut m = Mat6::zeros();
+        m.set_block(0, 0, &self.columns);
+        m.set_block(3, 3, &upper);
+        m
     }
 
     // The product with m. With P and Q of the matrix and R and S of m it has P R, and Q R + P S: first the terms of Q, then those of P. Carried
@@ -114,6 +104,7 @@ impl Blocks {
         Blocks { columns }
     }
 
+    // A named function and no `Add`: document 01 wants the operators so.
     fn add(self, t: Blocks) -> Blocks
         ensures { result.columns.data ≡ add_matrix 18 self.columns.data t.columns.data }
     {

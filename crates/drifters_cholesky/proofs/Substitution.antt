@@ -7,7 +7,7 @@ use Prim.Native.Nat.{ℕ, ◌+◌, ◌-◌, ◌*◌, ◌≤◌, ◌<◌}
 use native.Mathlib.Nat.{eq-or-lt_of_le, le_refl}
 use native.Mathlib.Numerals.{add-one}
 use native.Mathlib.Omega.{arith}
-use borrow.Author.Count.{below_none, below_more}
+use borrow.Author.Count.{below_more}
 use borrow.Author.Tests.{eqb-true, eqb-false}
 use lib.Dec.{eqb}
 use lib.ListN.{length, get_or, set}
@@ -23,13 +23,6 @@ pub record RowReplaced (c i : ℕ) (f : ℕ → Float) (o : List Float) (j : ℕ
   pub done : (q : ℕ) → q < j → at c x i q ≡ f q
   pub above : (k : ℕ) → k < i * c → get_or x k nan ≡ get_or o k nan
   pub left : (k : ℕ) → i * c + j ≤ k → get_or x k nan ≡ get_or o k nan
-
-pub replaced_none : {c i : ℕ} {f : ℕ → Float} {o : List Float} → RowReplaced c i f o 0 o
-replaced_none {c} {i} {f} {o} = record {
-  done = below_none (λ q. at c o i q ≡ f q);
-  above = λ k h. refl;
-  left = λ k h. refl;
-}
 
 pub replaced_set : {c i : ℕ} {f : ℕ → Float} {o : List Float} {j : ℕ} {x : List Float} {v : Float} → RowReplaced c i f o j x → i * c + j < length x → v ≡ f j →
     RowReplaced c i f o (j + 1) (set x (i * c + j) v)

@@ -1,9 +1,9 @@
 // One update by the best of several compasses: readings are tried in order, each as a direction call on the same filter, and the one with the
 // smallest normalised innovation squared is applied.
-ghost use Rattle.std.specs.Prelude.{◌≡◌, [], ◌+◌, ◌*◌, ◌≤◌, length};
+ghost use Rattle.std.specs.Prelude.{◌≡◌, [], ◌++◌, length};
 ghost use Rattle.drifters_entry.specs.Layout.{filter_length};
-ghost use Rattle.drifters_compasses.specs.Compasses.{reading_length, north_noise_length, compasses_fit, compasses_answer_of, direction_numbers, attempt, takes_place, better, best_of, compasses_outcome, update_compasses};
-ghost use Rattle.drifters_compasses.specs.Kept.{best_try};
+ghost use Rattle.drifters_compasses.specs.Compasses.{north_noise_length, compasses_fit, compasses_answer_of, takes_place, better, best_of, compasses_outcome, update_compasses};
+ghost use Rattle.drifters_compasses.specs.Kept.{best_try, attempt_by, attempt_of};
 
 use drifters_entry::entry::{FILTER_LENGTH, filter_call};
 use drifters_eqf::answer::Refusal;
@@ -46,28 +46,24 @@ pub fn update_compasses(
 ) -> Result<Tried, Refusal>
     ensures { compasses_outcome (compasses_answer_of result) run.new ≡ update_compasses run.old readings.now north_noise.now budget }
 {
-    let Some(run) = run.as_mut_array::<FILTER_LENGTH>() else {
-        return Err(Refusal::Length);
-    };
-    let Some(north_noise) = north_noise.as_array::<NORTH_NOISE_LENGTH>() else {
-        return Err(Refusal::Length);
-    };
+    let run = run.as_mut_array::<FILTER_LENGTH>().ok_or(Refusal::Length)?;
+    let north_noise = north_noise
+        .as_array::<NORTH_NOISE_LENGTH>()
+        .ok_or(Refusal::Length)?;
     if !readings_fit(readings.len(), budget) {
         return Err(Refusal::Length);
     }
     if !(all_finite(run) & all_finite(north_noise)) {
         return Err(Refusal::Blank);
     }
-    let tried = budget.min(readings.len() / READING_LENGTH);
+    let (readings, _) = readings.as_chunks::<READING_LENGTH>();
+    let tried = budget.min(readings.len());
     let mut left = [0.0; FILTER_LENGTH];
-    match best_of(tried, run, readings, north_noise, &mut left) {
-        None => Ok(Tried { tried, best: None }),
-        Some(best) => {
-            *run = left;
-            let best = Some(best);
-            Ok(Tried { tried, best })
-        }
+    let best = best_of(run, &readings[..tried], north_noise, &mut left);
+    if best.is_some() {
+        *run = left;
     }
+    Ok(Tried { tried, best })
 }
 
 // So many numbers are from one reading to the most of them, and the budget is in range.
@@ -81,21 +77,20 @@ fn readings_fit(readings: usize, budget: usize) -> bool
         & (budget <= MOST_READINGS)
 }
 
-// The best of the first k readings; the filter that it leaves, into `left`. The readings and north with noise stay two parameters:
-// C lends them as two runs, and a struct of two loans would put its loan into each contract.
+// The best of the readings; the filter that it leaves, into `left`. The readings and north with noise stay two parameters: C lends them as two runs,
+// and a struct of two loans would put its loan into each contract. `left` stands beside the best and not in it: a filter in an Option is copied with
+// it, 3.8 kB each time, and `left` is one run that is lent down.
 fn best_of(
-    k: usize,
     run: &[f64; FILTER_LENGTH],
-    readings: &[f64],
+    readings: &[[f64; READING_LENGTH]],
     north_noise: &[f64; NORTH_NOISE_LENGTH],
     left: &mut [f64; FILTER_LENGTH],
 ) -> Option<Best>
-    requires { k * reading_length ≤ length readings.now }
-    ensures { best_try result left.new ≡ best_of (attempt run.now readings.now north_noise.now) k }
+    ensures { best_try result left.new ≡ best_of (attempt_of run.now readings.now north_noise.now) (length readings.now) }
 {
     let mut best = None;
-    for i in 0..k {
-        best = try_reading(best, i, run, readings, north_noise, left);
+    for (i, reading) in readings.iter().enumerate() {
+        best = try_reading(best, i, run, reading, north_noise, left);
     }
     best
 }
@@ -105,15 +100,14 @@ fn try_reading(
     best: Option<Best>,
     i: usize,
     run: &[f64; FILTER_LENGTH],
-    readings: &[f64],
+    reading: &[f64; READING_LENGTH],
     north_noise: &[f64; NORTH_NOISE_LENGTH],
     left: &mut [f64; FILTER_LENGTH],
 ) -> Option<Best>
-    requires { i * reading_length + reading_length ≤ length readings.now }
-    ensures { best_try result left.new ≡ better (best_try best left.old) i (attempt run.now readings.now north_noise.now i) }
+    ensures { best_try result left.new ≡ better (best_try best left.old) i (attempt_by run.now reading.now north_noise.now) }
 {
     let mut trial = *run;
-    let numbers = direction_numbers(readings, i, north_noise);
+    let numbers = direction_numbers(reading, north_noise);
     let Ok(Some(nis)) = filter_call(Kind::Direction, &mut trial, &numbers) else {
         return best;
     };
@@ -129,24 +123,18 @@ fn try_reading(
 fn takes_place(nis: f64, best: Option<Best>) -> bool
     ensures { result ≡ takes_place nis (best_try best []) }
 {
-    match best {
-        None => true,
-        Some(least) => nis < least.nis,
-    }
+    best.is_none_or(|least| nis < least.nis)
 }
 
-// The numbers of a direction call by reading i: what it measured, then north and noise.
+// The numbers of a direction call by a reading: what it measured, then north and noise.
 fn direction_numbers(
-    readings: &[f64],
-    i: usize,
+    reading: &[f64; READING_LENGTH],
     north_noise: &[f64; NORTH_NOISE_LENGTH],
 ) -> [f64; DIRECTION_LENGTH]
-    requires { i * reading_length + reading_length ≤ length readings.now }
-    ensures { result ≡ direction_numbers readings.now north_noise.now i }
+    ensures { result ≡ reading.now ++ north_noise.now }
 {
-    let at = i * READING_LENGTH;
     let mut numbers = [0.0; DIRECTION_LENGTH];
-    numbers[..READING_LENGTH].copy_from_slice(&readings[at..at + READING_LENGTH]);
+    numbers[..READING_LENGTH].copy_from_slice(reading);
     numbers[READING_LENGTH..].copy_from_slice(north_noise);
     numbers
 }

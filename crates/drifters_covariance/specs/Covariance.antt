@@ -2,11 +2,11 @@
 use Rattle.std.specs.Prelude.{ℕ, ◌+◌, List, ◌++◌, get_or, Float}
 use Rattle.std.specs.Float.{nan}
 use Rattle.drifters_real.specs.Scalar.{half}
-use Rattle.drifters_matrix.specs.Matrix.{matrix, zeros, matmul, mul_transpose, scaled, set_block, from_diagonal, identity, add_matrix, sub_matrix, neg_matrix}
+use Rattle.drifters_matrix.specs.Matrix.{matrix, zeros, unit, matmul, mul_transpose, scaled, set_block, from_diagonal, identity, add_matrix, sub_matrix, neg_matrix}
 use Rattle.drifters_core.specs.Vec3.{to_array}
 use Rattle.drifters_core.specs.declared.math.vec3.Vec3.{Vec3}
 use Rattle.drifters_lie.specs.Lie.{to_array_se3, vec3_at, from_array_se3, chi, adjoint_apply_se3}
-use Rattle.drifters_symmetry.specs.Group.{attitude_offset, gyro_bias_offset, lever_offset, mag_offset, to_array21, from_array21, unit, ad, adjoint_apply}
+use Rattle.drifters_symmetry.specs.Group.{attitude_offset, gyro_bias_offset, lever_offset, mag_offset, to_array21, from_array21, ad, adjoint_apply}
 use Rattle.drifters_symmetry.specs.Lift.{lift}
 use Rattle.drifters_symmetry.specs.declared.group.Symmetry.{Symmetry}
 use Rattle.drifters_symmetry.specs.declared.group.Algebra.{Algebra}

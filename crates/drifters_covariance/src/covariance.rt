@@ -1,15 +1,17 @@
 // Port of the covariance lines of filter.rs: the process noise, the transition matrix, the Joseph form and the reset. They have a crate
 // of their own so that the edits of the filter are cheap to check.
-ghost use Rattle.std.specs.Prelude.{◌≡◌, ◌<◌, get_or};
+#![tactic(auto, unfolding(crate::specs::Covariance::transition, crate::specs::Covariance::input_column, crate::specs::Covariance::bias_column, crate::specs::Covariance::noise_map, crate::specs::Covariance::process_noise, crate::specs::Covariance::joseph, crate::specs::Covariance::reset_sigma))]
+
+ghost use Rattle.std.specs.Prelude.{◌≡◌, get_or};
 ghost use Rattle.std.specs.Float.{nan};
-ghost use Rattle.drifters_matrix.specs.Matrix.{matrix, zeros, matmul, mul_transpose};
-ghost use Rattle.drifters_symmetry.specs.Group.{to_array21};
+ghost use Rattle.drifters_matrix.specs.Matrix.{matrix, unit, matmul, sub_matrix, mul_transpose};
+ghost use Rattle.drifters_symmetry.specs.Group.{to_array21, from_array21, adjoint_apply};
 ghost use Rattle.drifters_symmetry.specs.Lift.{lift};
 ghost use Rattle.drifters_covariance.specs.Covariance.{transition, input_at, input_column, bias_column, noise_map, psd, process_noise, joseph, reset_sigma};
 
 use drifters_core::math::vec3::Vec3;
 use drifters_lie::lie::Se3Tangent;
-use drifters_matrix::math::matrix::{Mat6, Mat21, Mat21x6, Mat21x18, Vector21};
+use drifters_matrix::math::matrix::{Mat6, Mat21, Mat21x6, Mat21x18, Vector21, unit};
 use drifters_symmetry::group::{ATTITUDE, Algebra, GYRO_BIAS, LEVER, MAG, State, Symmetry};
 use drifters_symmetry::lift::{Input, lift};
 
@@ -80,39 +82,23 @@ fn noise_map(x: Symmetry, estimate: State, gravity: Vec3) -> Mat21x18
     g
 }
 
-// The columns of the input noise.
+// The columns of the input noise: column k is the lift at unit input k less the quiet one, transformed by the adjoint of x.
 fn input_columns(x: Symmetry, estimate: State, gravity: Vec3) -> Mat21x6
     ensures { result.data ≡ matrix 21 6 (λ i k. get_or (input_column x estimate gravity k) i nan) }
 {
-    let zero = [0.0; 6];
-    let quiet = lift(estimate, input_of(zero), gravity).to_array();
-    let mut m = Mat21x6::zeros();
-    for k in 0..6 {
-        m.set_column(k, input_column(x, estimate, gravity, quiet, k));
-    }
-    m
+    let quiet = lift(estimate, input_of([0.0; 6]), gravity).to_array();
+    let column = move |k: usize|
+        ensures { result ≡ to_array21 (adjoint_apply x (from_array21 (sub_matrix 21 (to_array21 (lift estimate (input_at (unit 6 k) 0) gravity)) quiet))) }
+    {
+        let driven = lift(estimate, input_of(unit(k)), gravity).to_array();
+        let difference = Vector21 { data: driven }.sub(Vector21 { data: quiet });
+        x.adjoint_apply(Algebra::from_array(difference.data))
+            .to_array()
+    };
+    Mat21x6::from_columns(&std::array::from_fn(column))
 }
 
-// Column k of the input noise: the lift at unit input k less the quiet one, transformed by the adjoint of x.
-fn input_column(
-    x: Symmetry,
-    estimate: State,
-    gravity: Vec3,
-    quiet: [f64; 21],
-    k: usize,
-) -> [f64; 21]
-    requires { (k < 6) × (quiet ≡ to_array21 (lift estimate (input_at (zeros 6) 0) gravity)) }
-    ensures { result ≡ input_column x estimate gravity k }
-{
-    let mut n = [0.0; 6];
-    n[k] = 1.0;
-    let driven = lift(estimate, input_of(n), gravity).to_array();
-    let difference = Vector21 { data: driven }.sub(Vector21 { data: quiet });
-    let linear = difference.data;
-    x.adjoint_apply(Algebra::from_array(linear)).to_array()
-}
-
-// Six numbers as an input.
+// Six numbers as an input. No `From`: `Input` is another crate's, and only the columns of its noise make one of an array.
 fn input_of(v: [f64; 6]) -> Input
     ensures { result ≡ input_at v 0 }
 {
@@ -122,57 +108,35 @@ fn input_of(v: [f64; 6]) -> Input
     }
 }
 
-// The columns of the bias noise, before their sign.
+// The columns of the bias noise, before their sign: column k is the adjoint of B at unit k.
 fn bias_columns(x: Symmetry) -> Mat6
     ensures { result.data ≡ matrix 6 6 (λ i k. get_or (bias_column x k) i nan) }
 {
-    let mut m = Mat6::zeros();
-    for k in 0..6 {
-        m.set_column(k, bias_column(x, k));
-    }
-    m
+    let column = move |k: usize|
+        ensures { result ≡ bias_column x k }
+    {
+        x.b()
+            .adjoint_apply(Se3Tangent::from_array(unit(k)))
+            .to_array()
+    };
+    Mat6::from_columns(&std::array::from_fn(column))
 }
 
-// Column k of the bias noise: the adjoint of B at unit k.
-fn bias_column(x: Symmetry, k: usize) -> [f64; 6]
-    requires { k < 6 }
-    ensures { result ≡ bias_column x k }
-{
-    let mut w = [0.0; 6];
-    w[k] = 1.0;
-    x.b().adjoint_apply(Se3Tangent::from_array(w)).to_array()
-}
-
-// The densities in the order of the noise map's columns.
+// The densities in the order of the noise map's columns: `psd` in the original, and no `From`, which would not say the order.
 fn psd(q: ProcessNoise) -> [f64; 18]
     ensures { result ≡ psd q }
 {
-    let gyro = q.gyro;
-    let accel = q.accel;
-    let gyro_bias = q.gyro_bias;
-    let accel_bias = q.accel_bias;
-    let lever = q.lever;
-    let mag = q.mag;
-    [
-        gyro.x,
-        gyro.y,
-        gyro.z,
-        accel.x,
-        accel.y,
-        accel.z,
-        gyro_bias.x,
-        gyro_bias.y,
-        gyro_bias.z,
-        accel_bias.x,
-        accel_bias.y,
-        accel_bias.z,
-        lever.x,
-        lever.y,
-        lever.z,
-        mag.x,
-        mag.y,
-        mag.z,
-    ]
+    let parts = [
+        q.gyro.to_array(),
+        q.accel.to_array(),
+        q.gyro_bias.to_array(),
+        q.accel_bias.to_array(),
+        q.lever.to_array(),
+        q.mag.to_array(),
+    ];
+    let mut densities = [0.0; 18];
+    densities.copy_from_slice(parts.as_flattened());
+    densities
 }
 
 // The Joseph form (I - kc) Σ (I - kc)ᵀ + noise, for kc the gain times the output matrix and noise the gain's share of the measurement

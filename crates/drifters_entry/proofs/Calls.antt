@@ -9,6 +9,7 @@ use lib.ListN.{length}
 use lib.Ieee.{Float}
 use borrow.Author.Tests.{eqb-true, eq-eqb, ne_eqb}
 use Rattle.std.specs.Prelude.{Option, Some, None, Result, Ok, Err}
+use Rattle.std.specs.Option.{ok_or}
 use Rattle.drifters_real.specs.Real.{is_finite}
 use Rattle.drifters_matrix.specs.Matrix.{all_finite}
 use Rattle.drifters_eqf.specs.Answer.{Answer, accepted, length_refusal, blank_refusal, range_refusal, refusal_number}
@@ -23,6 +24,11 @@ use Rattle.drifters_entry.specs.Asked.{first_refusal}
 use Rattle.drifters_kind.specs.declared.kind.Kind.{Kind}
 use Rattle.drifters_entry.proofs.Parts.{all_finite_one}
 use Rattle.drifters_entry.proofs.KindLaws.{written_by, kind_laws}
+
+-- the refusal r of a run that is not there, by `ok_or`
+pub refused_none : {A : Type 0} (run : Option A) {x r : Refusal} {t : Result A Refusal} → t ≡ ok_or run x → t ≡ Err r → r ≡ x
+refused_none None e f = cc
+refused_none (Some a) e f = cc
 
 -- ---- what is tested before a call is begun
 
@@ -48,7 +54,6 @@ pub record Passed (kind : Kind) (run v written : List Float) : Type 0 where
   pub run_length : length run ≡ filter_length
   pub v_length : length v ≡ call_length kind
   pub written_length_lem : length written ≡ written_length kind
-  pub run_finite : all_finite run ≡ true
   pub finite : all_finite run && all_finite v ≡ true
 
 module _ (kind : Kind) (run v written : List Float) where
@@ -68,7 +73,6 @@ module _ (kind : Kind) (run v written : List Float) where
           run_length = eqb-true (length run) filter_length fits.0;
           v_length = eqb-true (length v) (call_length kind) fits.1;
           written_length_lem = eqb-true (length written) (written_length kind) runs.1;
-          run_finite = ((and-eq-true_iff _ (all_finite v)).0 both.1).0;
           finite = both.1;
         }
 

@@ -1,24 +1,17 @@
--- The laws of a run by its parts: a part that is copied, a run that is stored part by part, and the finiteness of joined parts. Assumes nothing.
+-- The laws of a run by its parts: a run that is stored part by part, and the finiteness of joined parts. Assumes nothing.
 use mathlib.Core.Path.{◌≡◌, refl, sym, ap, ◌∙◌}
 use mathlib.Core.Bool.{◌&&◌, and_assoc, and-true}
 use mathlib.Core.List.{List, [], ◌∷◌, ◌++◌, append_assoc}
 use Prim.Native.Nat.{ℕ, suc, ◌+◌, ◌≤◌}
 use native.Mathlib.Omega.{arith}
-use lib.ListN.{length, get_or, take, drop, set, length-append, length-take, length-drop, drop_of_length-le}
-use lib.Seq.{take_all, take_at, get_or-take, get_or-drop, set_split}
-use lib.Ieee.{Float, nan}
+use lib.ListN.{length, take, drop, set, length-append, length-take, length-drop, drop_of_length-le}
+use lib.Seq.{take_all, take_at, set_split}
+use lib.Ieee.{Float}
 use borrow.Rule.Slice.PartMut.{put_mid}
 use Rattle.drifters_real.specs.Real.{is_finite}
-use Rattle.drifters_matrix.specs.Matrix.{tab, all_finite}
+use Rattle.drifters_matrix.specs.Matrix.{all_finite}
 use Rattle.drifters_core.specs.Vec3.{to_array, finite_vec3}
 use Rattle.drifters_core.specs.declared.math.vec3.Vec3.{Vec3}
-use Rattle.drifters_matrix.proofs.Matrix.Tab.{tab_is}
-use Rattle.drifters_entry.specs.Layout.{part}
-
--- the numbers of a part one by one
-pub tab_part : (v : List Float) (i n : ℕ) → i + n ≤ length v → tab n (λ k. get_or v (i + k) nan) ≡ part v i n
-tab_part v i n h =
-    sym (tab_is (part v i n) n _ (simp (length-take, length-drop) (omega arith)) (λ k p. get_or-take n (drop i v) k nan p ∙ get_or-drop i v k nan))
 
 -- ---- a run that is stored part by part, each after the last
 

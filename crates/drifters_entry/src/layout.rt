@@ -1,16 +1,16 @@
-// The filter and the state as runs of numbers, both ways. They are functions and no `From`: the records are other crates'.
-ghost use Rattle.std.specs.Prelude.{◌≡◌, ◌++◌, ◌+◌, ◌≤◌, length};
-ghost use Rattle.drifters_core.specs.Vec3.{to_array};
+// The filter and the state as runs of numbers, both ways. They are functions and no `From`: the records are other crates'. A run and a place in it stay
+// two parameters: the places are the constants of one layout, and a slice from the place on would have the same `requires` on its length.
+ghost use Rattle.std.specs.Prelude.{◌≡◌, ◌+◌, ◌≤◌, length};
 ghost use Rattle.drifters_matrix.specs.Matrix.{all_finite};
-ghost use Rattle.drifters_lie.specs.Lie.{to_array_se3, vec3_at};
-ghost use Rattle.drifters_entry.specs.Layout.{part, pose_numbers, from_run, to_run, state_from_run, state_to_run};
+ghost use Rattle.drifters_lie.specs.Lie.{vec3_at};
+ghost use Rattle.drifters_entry.specs.Layout.{part, from_run, to_run, state_from_run, state_to_run};
 ghost use Rattle.drifters_kind.specs.Kind.{state_length};
 
 use crate::entry::FILTER_LENGTH;
 use drifters_core::math::vec3::Vec3;
 use drifters_eqf::filter::EqFilter;
 use drifters_lie::lie::{Se3Tangent, Se23};
-use drifters_matrix::math::matrix::{Mat3, Matrix};
+use drifters_matrix::math::matrix::Matrix;
 use drifters_matrix::math::runs::all_finite;
 use drifters_real::math::real::is_finite;
 use drifters_symmetry::group::{State, Symmetry};
@@ -90,34 +90,39 @@ pub(crate) fn from_run(run: &[f64; FILTER_LENGTH]) -> EqFilter
     }
 }
 
+// A group element's parts as a state's: their numbers stand in the same order.
+fn state_of(x: Symmetry) -> State
+    ensures { result ≡ (record { pose = x.c; bias = x.gamma; lever = x.delta; mag = x.e }) }
+{
+    State {
+        pose: x.c,
+        bias: x.gamma,
+        lever: x.delta,
+        mag: x.e,
+    }
+}
+
 // A state from the first 33 numbers, which stand in the order of a filter's.
 pub(crate) fn state_from_run(run: &[f64]) -> State
     requires { state_length ≤ length run.now }
     ensures { result ≡ state_from_run run.now }
 {
-    let x = symmetry_from_run(run);
-    let pose = x.c;
-    let bias = x.gamma;
-    let lever = x.delta;
-    let mag = x.e;
-    State {
-        pose,
-        bias,
-        lever,
-        mag,
-    }
+    state_of(symmetry_from_run(run))
 }
 
-// The 33 numbers that a group element and a state have alike: a pose, six numbers, a vector, a matrix.
-pub(crate) fn state_numbers(c: Se23, w: Se3Tangent, v: Vec3, m: Mat3) -> [f64; 33]
-    ensures { result ≡ pose_numbers c ++ to_array_se3 w ++ to_array v ++ m.data }
+// The 33 numbers of a state; those of a group element by `state_of`, as `state_from_run` reads them.
+pub(crate) fn state_numbers(state: State) -> [f64; 33]
+    ensures { result ≡ state_to_run state }
 {
+    let c = state.pose;
+    let w = state.bias;
+    let v = state.lever;
     let a = c.rotation.data;
     let velocity = c.velocity;
     let position = c.position;
     let o = w.omega;
     let n = w.nu;
-    let e = m.data;
+    let e = state.mag.data;
     [
         a[0], a[1], a[2], a[3], a[4], a[5], a[6], a[7], a[8], velocity.x, velocity.y, velocity.z,
         position.x, position.y, position.z, o.x, o.y, o.z, n.x, n.y, n.z, v.x, v.y, v.z, e[0],
@@ -129,8 +134,7 @@ pub(crate) fn state_numbers(c: Se23, w: Se3Tangent, v: Vec3, m: Mat3) -> [f64; 3
 pub(crate) fn to_run(filter: &EqFilter, run: &mut [f64; FILTER_LENGTH])
     ensures { run.new ≡ to_run filter.now }
 {
-    let x = filter.x;
-    let numbers = state_numbers(x.c, x.gamma, x.delta, x.e);
+    let numbers = state_numbers(state_of(filter.x));
     run[..SIGMA].copy_from_slice(&numbers);
     run[SIGMA..GRAVITY].copy_from_slice(&filter.sigma.data);
     run[GRAVITY..ALPHA].copy_from_slice(&filter.gravity.to_array());
@@ -141,8 +145,7 @@ pub(crate) fn to_run(filter: &EqFilter, run: &mut [f64; FILTER_LENGTH])
 pub(crate) fn filter_is_finite(filter: &EqFilter) -> bool
     ensures { result ≡ all_finite (to_run filter.now) }
 {
-    let x = filter.x;
-    let numbers = state_numbers(x.c, x.gamma, x.delta, x.e);
+    let numbers = state_numbers(state_of(filter.x));
     all_finite(&numbers)
         & all_finite(&filter.sigma.data)
         & filter.gravity.is_finite()

@@ -1,2 +1,2 @@
--- The laws that the proofs of the functions rest on.
-pub mod Gain
+-- That refusals differ by their numbers.
+pub mod Refusals

@@ -1,5 +1,5 @@
--- The answers: the numbers of refusals (docs/MANUAL.md), and what each case of the answer stands for. Definitions only.
-use Rattle.std.specs.Prelude.{List, [], ◌∷◌, ℕ, Float, Option, Some, None, Result, Ok, Err}
+-- The answers: the numbers of refusals (docs/MANUAL.md), and what each case of the answer stands for. Definitions and a statement only.
+use Rattle.std.specs.Prelude.{◌≡◌, List, [], ◌∷◌, ℕ, Float, Option, Some, None, Result, Ok, Err}
 use Rattle.drifters_eqf.specs.declared.answer.Refusal.{Refusal}
 use Rattle.drifters_eqf.specs.declared.answer.Refusal.TheVariants.{Length, Blank, Turn, Pivot, Range, Sheet, Null}
 
@@ -41,6 +41,10 @@ refusal_number Range = range_refusal
 refusal_number Sheet = sheet_refusal
 refusal_number Null = null_refusal
 
+-- no two refusals have one number
+abbrev pub RefusalsDiffer : Type 0
+RefusalsDiffer = (a b : Refusal) → refusal_number a ≡ refusal_number b → a ≡ b
+
 -- the answer of a call: the normalised innovation squared of an accepted update, that another call is done, or the number of a refusal
 pub data Answer : Type 0 where
   Nis : Float → Answer
@@ -52,7 +56,7 @@ abbrev pub accepted : Option Float → Answer
 accepted (Some x) = Nis x
 accepted None = Fine
 
--- the answer that the code gives
+-- the answer that the code gives; nothing is lost by it: each answer of the code has its own case, and each refusal its own number (`RefusalsDiffer`)
 abbrev pub answer_of : Result (Option Float) Refusal → Answer
 answer_of (Ok nis) = accepted nis
 answer_of (Err r) = Refused (refusal_number r)

@@ -1,6 +1,9 @@
 // Port of filter.rs: the filter, its propagation and its updates, by value. The group acts from the right: a propagation composes on the
 // right, the correction of an update on the left. The lines of the covariance are in drifters_covariance.
-ghost use Rattle.std.specs.Prelude.{◌≡◌, ◌*◌, ◌≤◌, option_map};
+// The definitions that a proof opens.
+#![tactic(auto, unfolding(crate::specs::Filter::turn_fits, crate::specs::Filter::new, crate::specs::Filter::nav_state, crate::specs::Filter::half_step, crate::specs::Filter::midpoint, crate::specs::Filter::full_step, crate::specs::Filter::propagated_sigma, crate::specs::Filter::propagated, crate::specs::Filter::propagate, crate::specs::Filter::applied, crate::specs::Filter::step, crate::specs::Filter::corrected, crate::specs::Filter::measured_position, crate::specs::Filter::measured_velocity, crate::specs::Filter::measured_direction, crate::specs::Filter::projected, crate::specs::Filter::raw_factor, crate::specs::Filter::inflated_factor, crate::specs::Filter::gain, crate::specs::Filter::correction, crate::specs::Filter::update, drifters_gcu::specs::Gcu::inflate))]
+
+ghost use Rattle.std.specs.Prelude.{◌≡◌, ◌*◌, ◌<◌, option_map};
 ghost use Rattle.drifters_eqf.specs.Filter.{turn_fits, new, nav_state, answered_propagation, propagate, answered_update, applied, update, measurement3, measured_position, measured_velocity, measured_direction};
 
 use crate::answer::Refusal;
@@ -38,7 +41,8 @@ pub struct Updated {
     pub filter: EqFilter,
 }
 
-// What an update of three numbers measures: its output matrix and its innovation.
+// What an update of three numbers measures: its output matrix and its innovation, a `Vec3` since three numbers make it. `update` takes the two
+// at any width, apart, as the original does.
 #[derive(Clone, Copy)]
 pub struct Measurement3 {
     pub output: Mat3x21,
@@ -59,21 +63,20 @@ impl EqFilter {
     }
 
     // The estimate.
-    pub fn nav_state(self) -> State
-        ensures { result ≡ nav_state self }
+    pub fn nav_state(&self) -> State
+        ensures { result ≡ nav_state self.now }
     {
         act_state(self.x, State::default())
     }
 
     // Propagation over dt with one sample of the inertial sensors; dt may be negative. The lift changes over the step, as gravity turns in
     // the body frame, so it is taken again at the state half a step on: that makes the step second order in dt. The process noise is
-    // scaled by |dt|: it adds to the covariance also when time runs backwards.
+    // scaled by |dt|: it adds to the covariance also when time runs backwards. The parameters are the original's.
     pub fn propagate(self, u: Input, dt: f64, q: ProcessNoise) -> Result<EqFilter, Refusal>
         ensures { answered_propagation self result ≡ propagate self u dt q }
     {
         let gravity = self.gravity;
-        let alpha = self.alpha;
-        let estimate = act_state(self.x, State::default());
+        let estimate = self.nav_state();
         let start = lift(estimate, u, gravity).scaled(0.5 * dt);
         if !turn_fits(start) {
             return Err(Refusal::Turn);
@@ -91,18 +94,13 @@ impl EqFilter {
         congruence(&phi, &self.sigma, &mut sigma);
         sigma.add_scaled(&noise, abs(dt));
         sigma.symmetrize();
-        Ok(EqFilter {
-            x,
-            sigma,
-            gravity,
-            alpha,
-        })
+        Ok(EqFilter { x, sigma, ..self })
     }
 
-    // The update by a measurement of W numbers, as far as the gain; `apply` does the rest. The answer is the normalised innovation squared
-    // before inflation, which hides how unexpected the innovation is. The gain Σ cᵀ S⁻¹ is the transpose of a solve with the Cholesky factor of
-    // S, which is symmetric but for rounding: an inverse would cost more and round more, and at W = 1 a quotient by the variance would round
-    // otherwise.
+    // The update by a measurement of W numbers, as far as the gain; `apply` does the rest. Its parameters are the original's, with alpha from the
+    // caller. The answer is the normalised innovation squared before inflation, which hides how unexpected the innovation is. The gain Σ cᵀ S⁻¹
+    // is the transpose of a solve with the Cholesky factor of S, which is symmetric but for rounding: an inverse would cost more and round more,
+    // and at W = 1 a quotient by the variance would round otherwise. WW is W * W and WS is W * 21: a const argument cannot be computed.
     pub fn update<const W: usize, const WW: usize, const WS: usize>(
         self,
         c: &Matrix<W, 21, WS>,
@@ -110,20 +108,17 @@ impl EqFilter {
         noise: &Matrix<W, W, WW>,
         alpha: f64,
     ) -> Result<Updated, Refusal>
-        requires { (WW ≡ W * W) × (WS ≡ W * 21) × (WS ≡ 21 * W) × (W ≤ WW) × (21 ≤ WS) }
+        requires { (WW ≡ W * W) × (WS ≡ W * 21) × (0 < W) }
         ensures { answered_update self result ≡ update W self c.now.data innovation.now.data noise.now.data alpha }
     {
         let c_sigma: Matrix<W, 21, WS> = c.matmul(&self.sigma);
         let projected: Matrix<W, W, WW> = c_sigma.mul_transpose(c);
         let mut raw = projected;
         raw.add_in(noise);
-        let Some(raw) = Cholesky::new(&raw) else {
-            return Err(Refusal::Pivot);
-        };
+        let raw = Cholesky::new(&raw).ok_or(Refusal::Pivot)?;
         let r = nis(&raw, innovation);
-        let Some(chol) = Cholesky::new(&inflate_at(r, innovation, &projected, noise, alpha)) else {
-            return Err(Refusal::Pivot);
-        };
+        let inflated = inflate_at(r, innovation, &projected, noise, alpha);
+        let chol = Cholesky::new(&inflated).ok_or(Refusal::Pivot)?;
         let gain = chol.solve(&c_sigma).transpose();
         let column: Vector21 = gain.matmul(innovation);
         let kc: Mat21 = gain.matmul(c);
@@ -133,7 +128,8 @@ impl EqFilter {
     }
 
     // A correction applied to the filter, with r for an answer: composed on the left, then the Joseph form and the reset, since the error is
-    // measured from the new estimate afterwards. No width enters, so that updates of every width share it.
+    // measured from the new estimate afterwards. No width enters, so that updates of every width share it. No struct holds delta, kc and noise:
+    // it would be made in `update` alone, and the contract would take it apart into the same three lists.
     fn apply(&self, r: f64, delta: [f64; 21], kc: &Mat21, noise: &Mat21) -> Result<Updated, Refusal>
         ensures { answered_update self.now result ≡ applied self.now r (record { delta = delta; kc = kc.now.data; noise = noise.now.data }) }
     {
@@ -149,8 +145,7 @@ impl EqFilter {
         let filter = EqFilter {
             x: change.compose(self.x),
             sigma,
-            gravity: self.gravity,
-            alpha: self.alpha,
+            ..*self
         };
         Ok(Updated { nis: r, filter })
     }

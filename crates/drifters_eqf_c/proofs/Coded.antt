@@ -1,35 +1,21 @@
--- The laws of coded answers: an update by the lengths of its runs, and runs of one or two numbers. Assumes nothing.
+-- The laws of coded answers: an update by the lengths of its runs. Assumes nothing.
 use Prim.Native.Nat.{ℕ}
-use mathlib.Core.Path.{◌≡◌, refl, sym, ap, ◌∙◌}
-use mathlib.Core.Bool.{Bool, true, false, ◌&&◌, and-eq-true_iff}
+use mathlib.Core.Path.{◌≡◌, sym, ap, ◌∙◌}
+use mathlib.Core.Bool.{and-false}
 use mathlib.Core.List.{List, [], ◌∷◌}
-use native.Mathlib.Omega.{arith}
-use borrow.Author.Tests.{eqb-true, eq-eqb, ne_eqb}
-use lib.Dec.{eqb}
-use lib.ListN.{length, set}
+use borrow.Author.Tests.{eq-eqb, ne_eqb}
+use lib.ListN.{length}
 use lib.Ieee.{Float}
 use Rattle.drifters_real.specs.Real.{sin, cos}
-use Rattle.std.specs.Prelude.{Result}
-use Rattle.drifters_eqf.specs.Answer.{length_refusal, Answer, number_of}
+use Rattle.std.specs.Prelude.{Option, Result}
+use Rattle.drifters_eqf.specs.Answer.{length_refusal, answer_of, number_of}
 use Rattle.drifters_eqf.specs.declared.answer.Refusal.{Refusal}
 use Rattle.drifters_entry.specs.Entry.{Outcome, outcome, call}
 use Rattle.drifters_kind.specs.declared.kind.Kind.{Kind}
-use Rattle.drifters_compasses.specs.Compasses.{CompassesAnswer, CompassesOutcome, compasses_outcome, update_compasses, compasses_number}
+use Rattle.drifters_compasses.specs.Compasses.{compasses_answer_of, CompassesOutcome, compasses_outcome, update_compasses, compasses_number}
+use Rattle.drifters_compasses.specs.declared.compasses.Tried.{Tried}
 use Rattle.call_sheet.specs.Text.{Printed, printed, print_into}
 use Rattle.drifters_eqf_c.specs.Exports.{result_length, sin_cos_length, coded, nis_after, coded_update, counts_length, coded_compasses, counts_after, chosen_nis_after, coded_update_compasses, coded_sin_cos, coded_text, coded_printed, coded_sheet}
-
--- ---- runs that are written whole
-
-pub one_written : {A : Type 0} (l : List A) (x : A) → length l ≡ result_length → set l 0 x ≡ x ∷ []
-one_written [] x e = absurd (omega (arith, e))
-one_written (a ∷ []) x e = refl
-one_written (a ∷ b ∷ l) x e = absurd (omega (arith, e))
-
-pub two_written : {A : Type 0} (l : List A) (x y : A) → length l ≡ 2 → set (set l 0 x) 1 y ≡ x ∷ y ∷ []
-two_written [] x y e = absurd (omega (arith, e))
-two_written (a ∷ []) x y e = absurd (omega (arith, e))
-two_written (a ∷ b ∷ []) x y e = refl
-two_written (a ∷ b ∷ c ∷ l) x y e = absurd (omega (arith, e))
 
 -- ---- calls on a filter
 
@@ -39,38 +25,36 @@ module _ (kind : Kind) (run v nis : List Float) where
   unfolding coded_update
   update_refused differs = rw (ne_eqb _ _ differs)
 
-  -- and with one that is: r is the code of the answer a, and `given` the run after it
-  pub update_coded : {a : Answer} {left given : List Float} {r : ℕ} → length nis ≡ result_length → outcome a left [] ≡ call kind run v [] →
-      (r ≡ number_of a) × (given ≡ nis_after a nis) → coded r left given ≡ coded_update kind run v nis
+  -- and with one that is: a is what the call answers, and `shape` how it is matched
+  pub update_coded : {a shape : Result (Option Float) Refusal} {left : List Float} → length nis ≡ result_length → outcome (answer_of a) left [] ≡ call kind run v [] → a ≡ shape →
+      coded (number_of (answer_of shape)) left (nis_after (answer_of shape) nis) ≡ coded_update kind run v nis
   unfolding coded_update
-  update_coded {a} {left} one made told =
+  update_coded {a} {shape} {left} one made told =
       rw (eq-eqb _ _ one)
-      ((λ i. coded (told.0 i) left (told.1 i)) ∙ ap (λ (o : Outcome). coded (number_of o.answer) o.run (nis_after o.answer nis)) made)
+      (sym (ap (λ (x : Result (Option Float) Refusal). coded (number_of (answer_of x)) left (nis_after (answer_of x) nis)) told)
+      ∙ ap (λ (o : Outcome). coded (number_of o.answer) o.run (nis_after o.answer nis)) made)
 
 -- ---- updates by several compasses
 
--- the runs of counts and of a normalised innovation squared have their lengths, as the code tests them
-abbrev pub runs_fit : List ℕ → List Float → Bool
-runs_fit counts nis = eqb (length counts) counts_length && eqb (length nis) result_length
-
--- runs that fit have these lengths
-pub runs_fit_lem : (counts : List ℕ) (nis : List Float) → runs_fit counts nis ≡ true → (length counts ≡ counts_length) × (length nis ≡ result_length)
-runs_fit_lem counts nis fit = let both = (and-eq-true_iff _ _).0 fit in (eqb-true _ _ both.0, eqb-true _ _ both.1)
-
 module _ (run readings north_noise : List Float) (budget : ℕ) (counts : List ℕ) (nis : List Float) where
-  pub compasses_refused : runs_fit counts nis ≡ false → coded_compasses length_refusal run counts nis ≡ coded_update_compasses run readings north_noise budget counts nis
+  -- runs that are not of the lengths of counts and of a normalised innovation squared
+  pub counts_refused : (length counts ≡ counts_length → ⊥) → coded_compasses length_refusal run counts nis ≡ coded_update_compasses run readings north_noise budget counts nis
   unfolding coded_update_compasses
-  compasses_refused differ = rw differ
+  counts_refused differs = rw (ne_eqb _ _ differs)
 
-  -- r is the code of the answer a, and `told` and `given` the runs after it
-  pub compasses_coded : {a : CompassesAnswer} {left given : List Float} {told : List ℕ} {r : ℕ} → runs_fit counts nis ≡ true →
-      compasses_outcome a left ≡ update_compasses run readings north_noise budget →
-      (r ≡ compasses_number a) × (told ≡ counts_after a counts) × (given ≡ chosen_nis_after a nis) →
-      coded_compasses r left told given ≡ coded_update_compasses run readings north_noise budget counts nis
+  pub nis_refused : (length nis ≡ result_length → ⊥) → coded_compasses length_refusal run counts nis ≡ coded_update_compasses run readings north_noise budget counts nis
   unfolding coded_update_compasses
-  compasses_coded {a} {left} fit made all =
-      rw fit
-      ((λ i. coded_compasses (all.0 i) left (all.1 i) (all.2 i))
+  nis_refused differs = rw (ne_eqb _ _ differs, and-false)
+
+  -- a is what the update answers, and `shape` how it is matched
+  pub compasses_coded : {a shape : Result Tried Refusal} {left : List Float} → length counts ≡ counts_length → length nis ≡ result_length →
+      compasses_outcome (compasses_answer_of a) left ≡ update_compasses run readings north_noise budget → a ≡ shape →
+      coded_compasses (compasses_number (compasses_answer_of shape)) left (counts_after (compasses_answer_of shape) counts) (chosen_nis_after (compasses_answer_of shape) nis)
+      ≡ coded_update_compasses run readings north_noise budget counts nis
+  unfolding coded_update_compasses
+  compasses_coded {a} {shape} {left} two one made told =
+      rw (eq-eqb _ _ two, eq-eqb _ _ one)
+      (sym (ap (λ (x : Result Tried Refusal). coded_compasses (compasses_number (compasses_answer_of x)) left (counts_after (compasses_answer_of x) counts) (chosen_nis_after (compasses_answer_of x) nis)) told)
       ∙ ap (λ (o : CompassesOutcome). coded_compasses (compasses_number o.answer) o.run (counts_after o.answer counts) (chosen_nis_after o.answer nis)) made)
 
 -- ---- call sheets
@@ -95,6 +79,6 @@ module _ (theta : Float) (out : List Float) where
   sin_cos_refused differs = rw (ne_eqb _ _ differs)
 
   pub sin_cos_coded : {x y : Float} → length out ≡ sin_cos_length → x ≡ sin theta → y ≡ cos theta →
-      coded 0 [] (set (set out 0 x) 1 y) ≡ coded_sin_cos theta out
+      coded 0 [] (x ∷ y ∷ []) ≡ coded_sin_cos theta out
   unfolding coded_sin_cos
-  sin_cos_coded {x} {y} two s c = rw (eq-eqb _ _ two, two_written out x y two) (λ i. coded 0 [] (s i ∷ c i ∷ []))
+  sin_cos_coded {x} {y} two s c = rw (eq-eqb _ _ two) (λ i. coded 0 [] (s i ∷ c i ∷ []))

@@ -17,6 +17,11 @@ result_length = 1
 abbrev pub sin_cos_length : ℕ
 sin_cos_length = 2
 
+-- the code of an answer of any kind: 0, or the number of the refusal; only private contracts cite it
+abbrev pub code_of : {A : Type 0} → Result A Refusal → ℕ
+code_of (Ok x) = 0
+code_of (Err r) = refusal_number r
+
 -- a code, the filter's run, and the run of numbers that the function writes beside it, as they are afterwards
 pub record Coded : Type 0 where
   pub code : ℕ

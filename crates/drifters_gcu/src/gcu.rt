@@ -1,8 +1,9 @@
-// Port of gcu.rs: inflation of the innovation covariance by the normalised innovation squared, of any width.
+// Port of gcu.rs: inflation of the innovation covariance by the normalised innovation squared, of any width N. NN is N * N: a const argument cannot
+// be computed, so each function asks that of its callers.
+// The definitions that a proof opens.
+#![tactic(auto, unfolding(crate::specs::Gcu::beta, crate::specs::Gcu::nis, crate::specs::Gcu::inflated_by, crate::specs::Gcu::inflate))]
+
 ghost use Rattle.std.specs.Prelude.{◌≡◌, ◌*◌};
-ghost use Rattle.drifters_real.specs.Scalar.{◌⊗◌, plus_zero, one};
-ghost use Rattle.drifters_real.specs.Real.{clamp};
-ghost use Rattle.drifters_matrix.specs.Matrix.{scaled, add_matrix};
 ghost use Rattle.drifters_gcu.specs.Gcu.{dot_vector, beta, nis, inflated_by, inflate};
 
 use drifters_cholesky::math::cholesky::Cholesky;
@@ -19,21 +20,16 @@ pub fn inflate<const N: usize, const NN: usize>(
     requires { NN ≡ N * N }
     ensures { result.data ≡ inflate N innovation.now.data projected.now.data noise.now.data alpha }
 {
-    let mut s = *projected;
-    s.add_in(noise);
-    match Cholesky::new(&s) {
-        None => s,
-        Some(factor) => inflate_at(
-            nis(&factor, innovation),
-            innovation,
-            projected,
-            noise,
-            alpha,
-        ),
-    }
+    let s = projected.add(*noise);
+    let Some(factor) = Cholesky::new(&s) else {
+        return s;
+    };
+    let r = nis(&factor, innovation);
+    inflate_at(r, innovation, projected, noise, alpha)
 }
 
 // The inflated innovation covariance at the normalised innovation squared r, so that a caller that has factored does not factor again.
+// The other parameters are those of `inflate`, which has them from the original.
 pub fn inflate_at<const N: usize, const NN: usize>(
     r: f64,
     innovation: &Vector<N>,
@@ -44,28 +40,10 @@ pub fn inflate_at<const N: usize, const NN: usize>(
     requires { NN ≡ N * N }
     ensures { result.data ≡ inflated_by N (beta r) innovation.now.data projected.now.data noise.now.data alpha }
 {
-    let outer: Matrix<N, N, NN> = innovation.mul_transpose(innovation);
-    let mut data = projected.data;
-    inflate_in(&mut data, &outer.data, &noise.data, r, alpha);
-    Matrix { data }
-}
-
-// The entries `m` of the projected covariance to those of the inflated one, at the normalised innovation squared r. `outer` has the entries of
-// y yᵀ.
-fn inflate_in<const N: usize>(
-    m: &mut [f64; N],
-    outer: &[f64; N],
-    noise: &[f64; N],
-    r: f64,
-    alpha: f64,
-)
-    ensures { m.new ≡ add_matrix N (add_matrix N (scaled N m.old (beta r)) (scaled N outer.now (beta r ⊗ clamp alpha plus_zero one))) noise.now }
-{
     let b = beta(r);
     let share = b * clamp(alpha, 0.0, 1.0);
-    for (k, x) in m.iter_mut().enumerate() {
-        *x = *x * b + outer[k] * share + noise[k];
-    }
+    let outer: Matrix<N, N, NN> = innovation.mul_transpose(innovation);
+    projected.scaled(b).add(outer.scaled(share)).add(*noise)
 }
 
 // The normalised innovation squared, with the factor of the innovation covariance.

@@ -3,11 +3,11 @@ use Prim.Native.Nat.{ℕ, ◌≤◌, ◌<◌}
 use mathlib.Core.Path.{◌≡◌, refl, sym, ap, ◌∙◌}
 use mathlib.Core.Bool.{Bool, true, false, ◌&&◌, cond, and-eq-true_iff}
 use mathlib.Core.List.{List, [], ◌∷◌}
-use borrow.Author.Tests.{eqb-true, leb-true, ltb-true}
+use borrow.Author.Tests.{leb-true, ltb-true}
 use lib.Dec.{eqb, leb, ltb}
 use Rattle.std.specs.Prelude.{Some}
 use Rattle.std.proofs.lemmas.Option.{none-some, same_Some}
-use Rattle.drifters_kind.specs.Kind.{state_length, kind_number, call_length, written_length, most_call_numbers, all_kinds, find_kind, kind_of, KindsFound}
+use Rattle.drifters_kind.specs.Kind.{state_length, kind_number, call_length, written_length, most_call_numbers, all_kinds, find_kind, KindsFound}
 use Rattle.drifters_kind.specs.declared.kind.Kind.{Kind}
 use Rattle.drifters_kind.specs.declared.kind.Kind.TheVariants.{Propagate, Position, Velocity, Direction, General, State, Scalar}
 
@@ -28,36 +28,22 @@ unfoldable every : (Kind → Bool) → List Kind → Bool
 every p [] = true
 every p (kind ∷ kinds) = p kind && every p kinds
 
--- a kind that is found has the number n that it is found by, and passes every test that the kinds pass
-record Found (n : ℕ) (kinds : List Kind) (kind : Kind) : Type 0 where
-  number : kind_number kind ≡ n
-  tested : (p : Kind → Bool) → every p kinds ≡ true → p kind ≡ true
-
-found_in : (n : ℕ) (kinds : List Kind) {kind : Kind} → find_kind n kinds ≡ Some kind → Found n kinds kind
+-- a kind that is found passes every test that the kinds pass
+found_passes : (p : Kind → Bool) (n : ℕ) (kinds : List Kind) {kind : Kind} → find_kind n kinds ≡ Some kind → every p kinds ≡ true → p kind ≡ true
 unfolding find_kind every
-found_in n [] {kind} e = absurd (none-some kind e)
-found_in n (first ∷ kinds) {kind} e = go (eqb n (kind_number first)) refl e (λ h. found_in n kinds h)
+found_passes p n [] {kind} e h = absurd (none-some kind e)
+found_passes p n (first ∷ kinds) {kind} e h =
+    let both = (and-eq-true_iff (p first) (every p kinds)).0 h in
+    go (eqb n (kind_number first)) both.0 e (λ later. found_passes p n kinds later both.1)
   where
-    go : (b : Bool) → eqb n (kind_number first) ≡ b → cond b (Some first) (find_kind n kinds) ≡ Some kind
-        → (find_kind n kinds ≡ Some kind → Found n kinds kind) → Found n (first ∷ kinds) kind
-    go true t e after =
-        let is = same_Some first kind e in
-        record {
-          number = ap kind_number (sym is) ∙ sym (eqb-true n (kind_number first) t);
-          tested = λ p h. ap p (sym is) ∙ ((and-eq-true_iff (p first) (every p kinds)).0 h).0;
-        }
-    go false t e after =
-        let later = after e in
-        record { number = later.number; tested = λ p h. later.tested p ((and-eq-true_iff (p first) (every p kinds)).0 h).1 }
-
--- the kind of a number has that number
-pub number_of_kind : (n : ℕ) {kind : Kind} → kind_of n ≡ Some kind → kind_number kind ≡ n
-number_of_kind n e = (found_in n all_kinds e).number
+    go : (b : Bool) → p first ≡ true → cond b (Some first) (find_kind n kinds) ≡ Some kind → (find_kind n kinds ≡ Some kind → p kind ≡ true) → p kind ≡ true
+    go true t e after = ap p (sym (same_Some first kind e)) ∙ t
+    go false t e after = after e
 
 -- ---- what holds of every kind, by a test that is computed
 
 every_kind : (p : Kind → Bool) → every p all_kinds ≡ true → (kind : Kind) → p kind ≡ true
-every_kind p h kind = (found_in (kind_number kind) all_kinds (kinds_found kind)).tested p h
+every_kind p h kind = found_passes p (kind_number kind) all_kinds (kinds_found kind) h
 
 -- no call has more numbers
 pub call_most : (kind : Kind) → call_length kind ≤ most_call_numbers

@@ -1,8 +1,10 @@
 -- The kinds of call: the number of each, and how many numbers a call of it has and writes. Definitions and statements only.
-use Rattle.std.specs.Prelude.{ℕ, ◌≡◌, cond, List, [], ◌∷◌, eqb, Option, Some, None}
+use Rattle.std.specs.Prelude.{ℕ, ◌≡◌, cond, List, [], ◌∷◌, eqb, Option, Some, None, Result}
+use Rattle.std.specs.Option.{ok_or}
 use Rattle.drifters_kind.specs.declared.kind.Kind.{Kind}
 use Rattle.drifters_kind.specs.declared.kind.Kind.TheVariants.{Propagate, Position, Velocity, Direction, General, State, Scalar}
 use Rattle.drifters_kind.specs.declared.kind.Form.{Form}
+use Rattle.drifters_kind.specs.declared.kind.UnknownKind.{UnknownKind}
 
 -- how many numbers a state has
 abbrev pub state_length : ℕ
@@ -46,6 +48,10 @@ find_kind n (kind ∷ kinds) = cond (eqb n (kind_number kind)) (Some kind) (find
 -- the kind of a number; None where no kind has it
 abbrev pub kind_of : ℕ → Option Kind
 kind_of n = find_kind n all_kinds
+
+-- the same, with the number itself where no kind has it
+abbrev pub kind_by_number : ℕ → Result Kind UnknownKind
+kind_by_number n = ok_or (kind_of n) (record { 0 = n })
 
 -- every kind is found by its number
 abbrev pub KindsFound : Type 0

@@ -1,21 +1,25 @@
 // The kinds of call on a filter: the number of each, and how many numbers a call of it has and writes.
 ghost use Rattle.std.specs.Prelude.{◌≡◌};
-ghost use Rattle.drifters_kind.specs.Kind.{call_length, written_length, form_of, kind_of};
+ghost use Rattle.drifters_kind.specs.Kind.{call_length, written_length, form_of, kind_by_number};
 
-// The kinds that a sheet or a log may hold, in the order of their numbers.
-#[derive(Clone, Copy, PartialEq, Eq, Debug)]
+// The kinds that a sheet or a log may hold, each with its number.
+#[derive(Clone, Copy)]
 pub enum Kind {
-    Propagate,
-    Position,
-    Velocity,
-    Direction,
-    General,
-    State,
-    Scalar,
+    Propagate = 1,
+    Position = 2,
+    Velocity = 3,
+    Direction = 4,
+    General = 5,
+    State = 6,
+    Scalar = 7,
 }
 
+// A number that no kind has.
+#[derive(Clone, Copy)]
+pub struct UnknownKind(pub u32);
+
 // The number of a kind, how many numbers a call of it has, and how many it writes beside the filter.
-#[derive(Clone, Copy, PartialEq, Eq, Debug)]
+#[derive(Clone, Copy)]
 pub struct Form {
     pub number: u32,
     pub numbers: usize,
@@ -28,64 +32,45 @@ pub const STATE_LENGTH: usize = 33;
 // The most numbers of a call.
 pub const MOST_CALL_NUMBERS: usize = 75;
 
-impl Kind {
-    // The kind of a number, where there is one.
+// The kind of a number. That each kind is found by its number here is the theorem `KindsFound`.
+impl TryFrom<u32> for Kind {
+    type Error = UnknownKind;
+
+    ghost try_from_gives = { λ n r. r ≡ kind_by_number n };
+
     #[tactic(auto, unfolding(crate::specs::Kind::find_kind))]
-    pub fn from_number(n: u32) -> Option<Kind>
-        ensures { result ≡ kind_of n }
-    {
+    fn try_from(n: u32) -> Result<Kind, UnknownKind> {
         match n {
-            1 => Some(Kind::Propagate),
-            2 => Some(Kind::Position),
-            3 => Some(Kind::Velocity),
-            4 => Some(Kind::Direction),
-            5 => Some(Kind::General),
-            6 => Some(Kind::State),
-            7 => Some(Kind::Scalar),
-            _ => None,
+            1 => Ok(Kind::Propagate),
+            2 => Ok(Kind::Position),
+            3 => Ok(Kind::Velocity),
+            4 => Ok(Kind::Direction),
+            5 => Ok(Kind::General),
+            6 => Ok(Kind::State),
+            7 => Ok(Kind::Scalar),
+            _ => Err(UnknownKind(n)),
         }
     }
+}
 
+impl Kind {
     // Its form.
     pub fn form(self) -> Form
         ensures { result ≡ form_of self }
     {
-        match self {
-            Kind::Propagate => Form {
-                number: 1,
-                numbers: 25,
-                written: 0,
-            },
-            Kind::Position => Form {
-                number: 2,
-                numbers: 12,
-                written: 0,
-            },
-            Kind::Velocity => Form {
-                number: 3,
-                numbers: 15,
-                written: 0,
-            },
-            Kind::Direction => Form {
-                number: 4,
-                numbers: 15,
-                written: 0,
-            },
-            Kind::General => Form {
-                number: 5,
-                numbers: 75,
-                written: 0,
-            },
-            Kind::State => Form {
-                number: 6,
-                numbers: 0,
-                written: STATE_LENGTH,
-            },
-            Kind::Scalar => Form {
-                number: 7,
-                numbers: 23,
-                written: 0,
-            },
+        let (numbers, written) = match self {
+            Kind::Propagate => (25, 0),
+            Kind::Position => (12, 0),
+            Kind::Velocity => (15, 0),
+            Kind::Direction => (15, 0),
+            Kind::General => (75, 0),
+            Kind::State => (0, STATE_LENGTH),
+            Kind::Scalar => (23, 0),
+        };
+        Form {
+            number: self as u32,
+            numbers,
+            written,
         }
     }
 

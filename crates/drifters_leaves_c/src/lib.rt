@@ -1,8 +1,9 @@
 // The leaves, exported for the comparison with the original only: each function takes every number, and writes only what it is lent.
 // drifters_eqf_c exports what a product calls. The C interface lends arrays, and passes no generic struct: a leaf copies them into matrices.
+// A matrix's numbers go out through a variable: where the field is stored straight, the check has no proof of it yet.
 #![tactic(auto)]
 
-ghost use Rattle.std.specs.Prelude.{◌≡◌, cond, Some, None};
+ghost use Rattle.std.specs.Prelude.{◌≡◌, ◌*◌, ◌≤◌, cond, Some, None};
 ghost use Rattle.drifters_core.specs.Vec3.{from_array, to_array, normalized, amax_vec3};
 ghost use Rattle.drifters_matrix.specs.Matrix.{matmul, mul_transpose, from_diagonal, symmetrize, amax};
 ghost use Rattle.drifters_cholesky.specs.Cholesky.{definite, entries_of, cholesky, solve};
@@ -16,21 +17,17 @@ use drifters_cholesky::math::cholesky::Cholesky;
 use drifters_core::math::vec3::Vec3;
 use drifters_gcu::gcu::beta;
 use drifters_lie::lie::{Se3Tangent, left_jacobian};
-use drifters_matrix::math::matrix::{
-    Mat3, Mat3x21, Mat6, Mat18, Mat21, Mat21x3, Mat21x18, Vector3, Vector6, Vector21,
-};
+use drifters_matrix::math::matrix::{Mat3, Mat3x21, Mat21, Mat21x18, Matrix};
 use drifters_quat::math::quat::Quat;
 
-// Whether `v` has a vector over its norm, which is then in `out`; else `out` is as it was.
+// Whether `v` has a vector over its norm, which is then in `out`; else `out` is as it was. C has no Option.
 #[unsafe(no_mangle)]
 pub extern "C" fn drifters_normalized(v: &[f64; 3], out: &mut [f64; 3]) -> bool
     ensures { (cond result (Some (from_array out.new)) None ≡ normalized (from_array v.now)) × (out.new ≡ cond result out.new out.old) }
 {
-    let a = *v;
-    match Vec3::from_array(a).normalized() {
+    match Vec3::from_array(*v).normalized() {
         Some(unit) => {
-            let b = unit.to_array();
-            *out = b;
+            *out = unit.to_array();
             true
         }
         None => false,
@@ -41,8 +38,7 @@ pub extern "C" fn drifters_normalized(v: &[f64; 3], out: &mut [f64; 3]) -> bool
 pub extern "C" fn drifters_amax(v: &[f64; 3]) -> f64
     ensures { result ≡ amax_vec3 (from_array v.now) }
 {
-    let a = *v;
-    Vec3::from_array(a).amax()
+    Vec3::from_array(*v).amax()
 }
 
 // The quaternion of a rotation vector, as w, x, y, z, and its direction cosine matrix.
@@ -50,95 +46,113 @@ pub extern "C" fn drifters_amax(v: &[f64; 3]) -> f64
 pub extern "C" fn drifters_rotation(phi: &[f64; 3], q: &mut [f64; 4], dcm: &mut [f64; 9])
     ensures { (q.new ≡ Rattle.drifters_quat.specs.Quat.to_array (from_rotation_vector (from_array phi.now))) × (dcm.new ≡ (to_dcm (from_rotation_vector (from_array phi.now))).data) }
 {
-    let a = *phi;
-    let r = Quat::from_rotation_vector(Vec3::from_array(a));
-    let w = r.to_array();
+    let r = Quat::from_rotation_vector(Vec3::from_array(*phi));
+    *q = r.to_array();
     let m = r.to_dcm();
-    let d = m.data;
-    *q = w;
-    *dcm = d;
+    let data = m.data;
+    *dcm = data;
 }
 
-// The products of the shapes in use: an r by c matrix times a c by d one, or times the transpose of a d by c one, at r, c, d.
+// The product of an R by C matrix and a C by D one.
+fn matmul_of<
+    const R: usize,
+    const C: usize,
+    const D: usize,
+    const N: usize,
+    const M: usize,
+    const K: usize,
+>(a: &[f64; N], b: &[f64; M], out: &mut [f64; K])
+    requires { (N ≡ R * C) × (M ≡ C * D) × (K ≡ R * D) × (D ≤ K) }
+    ensures { out.new ≡ matmul R C D a.now b.now }
+{
+    let rhs: Matrix<C, D, M> = Matrix { data: *b };
+    let product: Matrix<R, D, K> = Matrix::<R, C, N> { data: *a }.matmul(&rhs);
+    let data = product.data;
+    *out = data;
+}
+
+// The product of an R by C matrix and the transpose of a D by C one. It differs from the one above in the method and in the shape of b, and a closure
+// for the method would be as long.
+fn mul_transpose_of<
+    const R: usize,
+    const C: usize,
+    const D: usize,
+    const N: usize,
+    const M: usize,
+    const K: usize,
+>(a: &[f64; N], b: &[f64; M], out: &mut [f64; K])
+    requires { (N ≡ R * C) × (M ≡ D * C) × (K ≡ R * D) × (D ≤ K) }
+    ensures { out.new ≡ mul_transpose R C D a.now b.now }
+{
+    let rhs: Matrix<D, C, M> = Matrix { data: *b };
+    let product: Matrix<R, D, K> = Matrix::<R, C, N> { data: *a }.mul_transpose(&rhs);
+    let data = product.data;
+    *out = data;
+}
+
+// The products of the shapes in use: an r by c matrix times a c by d one, or times the transpose of a d by c one, at r, c, d. C has no generics:
+// each shape has a name.
 #[unsafe(no_mangle)]
 pub extern "C" fn drifters_matmul_3_3_3(a: &[f64; 9], b: &[f64; 9], out: &mut [f64; 9])
     ensures { out.new ≡ matmul 3 3 3 a.now b.now }
 {
-    let p: Mat3 = Mat3 { data: *a }.matmul(&Mat3 { data: *b });
-    let d = p.data;
-    *out = d;
+    matmul_of::<3, 3, 3, 9, 9, 9>(a, b, out);
 }
 
 #[unsafe(no_mangle)]
 pub extern "C" fn drifters_matmul_6_6_6(a: &[f64; 36], b: &[f64; 36], out: &mut [f64; 36])
     ensures { out.new ≡ matmul 6 6 6 a.now b.now }
 {
-    let p: Mat6 = Mat6 { data: *a }.matmul(&Mat6 { data: *b });
-    let d = p.data;
-    *out = d;
+    matmul_of::<6, 6, 6, 36, 36, 36>(a, b, out);
 }
 
 #[unsafe(no_mangle)]
 pub extern "C" fn drifters_matmul_6_6_1(a: &[f64; 36], b: &[f64; 6], out: &mut [f64; 6])
     ensures { out.new ≡ matmul 6 6 1 a.now b.now }
 {
-    let p: Vector6 = Mat6 { data: *a }.matmul(&Vector6 { data: *b });
-    let d = p.data;
-    *out = d;
+    matmul_of::<6, 6, 1, 36, 6, 6>(a, b, out);
 }
 
 #[unsafe(no_mangle)]
 pub extern "C" fn drifters_matmul_21_21_21(a: &[f64; 441], b: &[f64; 441], out: &mut [f64; 441])
     ensures { out.new ≡ matmul 21 21 21 a.now b.now }
 {
-    let p: Mat21 = Mat21 { data: *a }.matmul(&Mat21 { data: *b });
-    let d = p.data;
-    *out = d;
+    matmul_of::<21, 21, 21, 441, 441, 441>(a, b, out);
 }
 
 #[unsafe(no_mangle)]
 pub extern "C" fn drifters_matmul_3_21_21(a: &[f64; 63], b: &[f64; 441], out: &mut [f64; 63])
     ensures { out.new ≡ matmul 3 21 21 a.now b.now }
 {
-    let p: Mat3x21 = Mat3x21 { data: *a }.matmul(&Mat21 { data: *b });
-    let d = p.data;
-    *out = d;
+    matmul_of::<3, 21, 21, 63, 441, 63>(a, b, out);
 }
 
 #[unsafe(no_mangle)]
 pub extern "C" fn drifters_matmul_21_3_1(a: &[f64; 63], b: &[f64; 3], out: &mut [f64; 21])
     ensures { out.new ≡ matmul 21 3 1 a.now b.now }
 {
-    let p: Vector21 = Mat21x3 { data: *a }.matmul(&Vector3 { data: *b });
-    let d = p.data;
-    *out = d;
+    matmul_of::<21, 3, 1, 63, 3, 21>(a, b, out);
 }
 
 #[unsafe(no_mangle)]
 pub extern "C" fn drifters_matmul_21_3_3(a: &[f64; 63], b: &[f64; 9], out: &mut [f64; 63])
     ensures { out.new ≡ matmul 21 3 3 a.now b.now }
 {
-    let p: Mat21x3 = Mat21x3 { data: *a }.matmul(&Mat3 { data: *b });
-    let d = p.data;
-    *out = d;
+    matmul_of::<21, 3, 3, 63, 9, 63>(a, b, out);
 }
 
 #[unsafe(no_mangle)]
 pub extern "C" fn drifters_matmul_21_3_21(a: &[f64; 63], b: &[f64; 63], out: &mut [f64; 441])
     ensures { out.new ≡ matmul 21 3 21 a.now b.now }
 {
-    let p: Mat21 = Mat21x3 { data: *a }.matmul(&Mat3x21 { data: *b });
-    let d = p.data;
-    *out = d;
+    matmul_of::<21, 3, 21, 63, 63, 441>(a, b, out);
 }
 
 #[unsafe(no_mangle)]
 pub extern "C" fn drifters_matmul_21_18_18(a: &[f64; 378], b: &[f64; 324], out: &mut [f64; 378])
     ensures { out.new ≡ matmul 21 18 18 a.now b.now }
 {
-    let p: Mat21x18 = Mat21x18 { data: *a }.matmul(&Mat18 { data: *b });
-    let d = p.data;
-    *out = d;
+    matmul_of::<21, 18, 18, 378, 324, 378>(a, b, out);
 }
 
 #[unsafe(no_mangle)]
@@ -149,27 +163,21 @@ pub extern "C" fn drifters_mul_transpose_21_21_21(
 )
     ensures { out.new ≡ mul_transpose 21 21 21 a.now b.now }
 {
-    let p: Mat21 = Mat21 { data: *a }.mul_transpose(&Mat21 { data: *b });
-    let d = p.data;
-    *out = d;
+    mul_transpose_of::<21, 21, 21, 441, 441, 441>(a, b, out);
 }
 
 #[unsafe(no_mangle)]
 pub extern "C" fn drifters_mul_transpose_3_21_3(a: &[f64; 63], b: &[f64; 63], out: &mut [f64; 9])
     ensures { out.new ≡ mul_transpose 3 21 3 a.now b.now }
 {
-    let p: Mat3 = Mat3x21 { data: *a }.mul_transpose(&Mat3x21 { data: *b });
-    let d = p.data;
-    *out = d;
+    mul_transpose_of::<3, 21, 3, 63, 63, 9>(a, b, out);
 }
 
 #[unsafe(no_mangle)]
 pub extern "C" fn drifters_mul_transpose_21_3_21(a: &[f64; 63], b: &[f64; 63], out: &mut [f64; 441])
     ensures { out.new ≡ mul_transpose 21 3 21 a.now b.now }
 {
-    let p: Mat21 = Mat21x3 { data: *a }.mul_transpose(&Mat21x3 { data: *b });
-    let d = p.data;
-    *out = d;
+    mul_transpose_of::<21, 3, 21, 63, 63, 441>(a, b, out);
 }
 
 // The 21 by 18 matrix `a` times the diagonal matrix of `d`.
@@ -177,9 +185,9 @@ pub extern "C" fn drifters_mul_transpose_21_3_21(a: &[f64; 63], b: &[f64; 63], o
 pub extern "C" fn drifters_mul_diagonal_21_18(a: &[f64; 378], d: &[f64; 18], out: &mut [f64; 378])
     ensures { out.new ≡ matmul 21 18 18 a.now (from_diagonal 18 d.now) }
 {
-    let p = Mat21x18 { data: *a }.mul_diagonal::<324>(*d);
-    let d = p.data;
-    *out = d;
+    let product = Mat21x18 { data: *a }.mul_diagonal::<324>(*d);
+    let data = product.data;
+    *out = data;
 }
 
 #[unsafe(no_mangle)]
@@ -190,18 +198,14 @@ pub extern "C" fn drifters_mul_transpose_21_18_21(
 )
     ensures { out.new ≡ mul_transpose 21 18 21 a.now b.now }
 {
-    let p: Mat21 = Mat21x18 { data: *a }.mul_transpose(&Mat21x18 { data: *b });
-    let d = p.data;
-    *out = d;
+    mul_transpose_of::<21, 18, 21, 378, 378, 441>(a, b, out);
 }
 
 #[unsafe(no_mangle)]
 pub extern "C" fn drifters_mul_transpose_3_1_3(a: &[f64; 3], b: &[f64; 3], out: &mut [f64; 9])
     ensures { out.new ≡ mul_transpose 3 1 3 a.now b.now }
 {
-    let p: Mat3 = Vector3 { data: *a }.mul_transpose(&Vector3 { data: *b });
-    let d = p.data;
-    *out = d;
+    mul_transpose_of::<3, 1, 3, 3, 3, 9>(a, b, out);
 }
 
 #[unsafe(no_mangle)]
@@ -210,8 +214,7 @@ pub extern "C" fn drifters_symmetrize21(m: &mut [f64; 441])
 {
     let mut p = Mat21 { data: *m };
     p.symmetrize();
-    let d = p.data;
-    *m = d;
+    *m = p.data;
 }
 
 #[unsafe(no_mangle)]
@@ -221,15 +224,15 @@ pub extern "C" fn drifters_amax21(m: &[f64; 441]) -> f64
     Mat21 { data: *m }.amax()
 }
 
-// Whether `a` is positive definite; its lower factor, or zeros, into `lower`.
+// Whether `a` is positive definite; its lower factor, or zeros, into `lower`. C has no Option.
 #[unsafe(no_mangle)]
 pub extern "C" fn drifters_cholesky3(a: &[f64; 9], lower: &mut [f64; 9]) -> bool
     ensures { (result ≡ definite (cholesky 3 a.now)) × (lower.new ≡ entries_of 3 (cholesky 3 a.now)) }
 {
     match Cholesky::new(&Mat3 { data: *a }) {
         Some(factor) => {
-            let d = factor.lower.data;
-            *lower = d;
+            let data = factor.lower.data;
+            *lower = data;
             true
         }
         None => {
@@ -248,8 +251,8 @@ pub extern "C" fn drifters_solve3(lower: &[f64; 9], b: &[f64; 63], out: &mut [f6
         lower: Mat3 { data: *lower },
     };
     let x: Mat3x21 = factor.solve(&Mat3x21 { data: *b });
-    let d = x.data;
-    *out = d;
+    let data = x.data;
+    *out = data;
 }
 
 // The adjoint of exp (s v), integrated over s from 0 to 1; v is omega, then nu.
@@ -257,20 +260,18 @@ pub extern "C" fn drifters_solve3(lower: &[f64; 9], b: &[f64; 63], out: &mut [f6
 pub extern "C" fn drifters_integrated_adjoint(v: &[f64; 6], out: &mut [f64; 36])
     ensures { out.new ≡ integrated_adjoint (from_array_se3 v.now) }
 {
-    let a = *v;
-    let m = integrated_adjoint(Se3Tangent::from_array(a));
-    let d = m.data;
-    *out = d;
+    let m = integrated_adjoint(Se3Tangent::from_array(*v));
+    let data = m.data;
+    *out = data;
 }
 
 #[unsafe(no_mangle)]
 pub extern "C" fn drifters_left_jacobian(omega: &[f64; 3], out: &mut [f64; 9])
     ensures { out.new ≡ (left_jacobian (from_array omega.now)).data }
 {
-    let a = *omega;
-    let m = left_jacobian(Vec3::from_array(a));
-    let d = m.data;
-    *out = d;
+    let m = left_jacobian(Vec3::from_array(*omega));
+    let data = m.data;
+    *out = data;
 }
 
 // The factor of inflation at the normalised innovation squared r.

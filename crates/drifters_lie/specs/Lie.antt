@@ -78,6 +78,10 @@ se3_tangent_at v i = se3_tangent (vec3_at v i) (vec3_at v (i + 3))
 abbrev pub from_array_se3 : List Float → Se3Tangent
 from_array_se3 v = se3_tangent_at v 0
 
+-- both parts times s
+abbrev pub scaled_se3 : Se3Tangent → Float → Se3Tangent
+scaled_se3 u s = se3_tangent (mul_vec3 u.omega s) (mul_vec3 u.nu s)
+
 -- the Lie bracket of se(3)
 unfoldable pub bracket_se3 : Se3Tangent → Se3Tangent → Se3Tangent
 bracket_se3 u v = se3_tangent (cross u.omega v.omega) (add_vec3 (cross u.nu v.omega) (cross u.omega v.nu))

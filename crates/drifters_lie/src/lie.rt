@@ -1,7 +1,9 @@
 // Port of lie.rs: the Lie groups SE₂(3) and SE(3), their algebras, and the left Jacobian of SO(3), by value. The operators are named
 // functions, and `from_array` and `to_array` have the original's names.
+#![tactic(auto, unfolding(crate::specs::Lie::scaled_se23, crate::specs::Lie::add_se23, crate::specs::Lie::bracket_se3, crate::specs::Lie::ad_se3, crate::specs::Lie::add_se3, crate::specs::Lie::sub_se3, crate::specs::Lie::neg_se3, crate::specs::Lie::compose_se23, crate::specs::Lie::inverse_se23, crate::specs::Lie::adjoint_apply_se23, crate::specs::Lie::exp_se23, crate::specs::Lie::inverse_se3, crate::specs::Lie::adjoint_se3, crate::specs::Lie::adjoint_apply_se3, crate::specs::Lie::exp_se3, crate::specs::Lie::jacobian_a, crate::specs::Lie::jacobian_b, crate::specs::Lie::left_jacobian))]
+
 ghost use Rattle.std.specs.Prelude.{◌≡◌};
-ghost use Rattle.drifters_lie.specs.Lie.{se23_tangent, se3_tangent, to_array_se23, scaled_se23, pi, to_array_se3, from_array_se3, bracket_se3, ad_se3, add_se3, sub_se3, neg_se3, add_se23, jacobian_a, jacobian_b, left_jacobian, identity_se23, compose_se23, inverse_se23, adjoint_apply_se23, chi, exp_with, exp_se23, inverse_se3, adjoint_se3, adjoint_apply_se3, exp_se3};
+ghost use Rattle.drifters_lie.specs.Lie.{se23_tangent, se3_tangent, to_array_se23, scaled_se23, pi, to_array_se3, from_array_se3, scaled_se3, bracket_se3, ad_se3, add_se3, sub_se3, neg_se3, add_se23, jacobian_a, jacobian_b, left_jacobian, identity_se23, compose_se23, inverse_se23, adjoint_apply_se23, chi, exp_with, exp_se23, inverse_se3, adjoint_se3, adjoint_apply_se3, exp_se3};
 
 use drifters_core::math::vec3::{Vec3, mul_vec3};
 use drifters_matrix::math::matrix::{Mat3, Mat6};
@@ -42,9 +44,7 @@ impl Se23Tangent {
     pub fn pi(self) -> Se3Tangent
         ensures { result ≡ pi self }
     {
-        let omega = self.omega;
-        let nu = self.nu;
-        Se3Tangent { omega, nu }
+        Se3Tangent::new(self.omega, self.nu)
     }
 
     pub fn add(self, rhs: Se23Tangent) -> Se23Tangent
@@ -58,7 +58,7 @@ impl Se23Tangent {
     }
 }
 
-// A 6-vector of se(3), ordered (omega, nu).
+// A 6-vector of se(3), ordered (omega, nu). As with the groups (below), its methods are those of se₂(3) with one part less.
 #[derive(Clone, Copy)]
 pub struct Se3Tangent {
     pub omega: Vec3,
@@ -90,6 +90,12 @@ impl Se3Tangent {
         ensures { result ≡ from_array_se3 v }
     {
         Se3Tangent::new(Vec3::new(v[0], v[1], v[2]), Vec3::new(v[3], v[4], v[5]))
+    }
+
+    pub fn scaled(self, s: f64) -> Se3Tangent
+        ensures { result ≡ scaled_se3 self s }
+    {
+        Se3Tangent::new(self.omega.mul(s), self.nu.mul(s))
     }
 
     // The Lie bracket [self, other].
@@ -193,11 +199,9 @@ impl Se23 {
     pub fn chi(self) -> Se3
         ensures { result ≡ chi self }
     {
-        let rotation = self.rotation;
-        let translation = self.velocity;
         Se3 {
-            rotation,
-            translation,
+            rotation: self.rotation,
+            translation: self.velocity,
         }
     }
 
@@ -220,7 +224,8 @@ impl Se23 {
     }
 }
 
-// An element of SE(3).
+// An element of SE(3). Its methods are those of SE₂(3) with one column less, and the tangents' are alike too: all four types are the original's,
+// with a name for each part, and one of any number of columns would go over them in loops.
 #[derive(Clone, Copy)]
 pub struct Se3 {
     pub rotation: Mat3,
@@ -277,7 +282,7 @@ impl Se3 {
 // The squared angle below which the series of the left Jacobian are used.
 const SMALL_ANGLE_SQ: f64 = 1.0e-4;
 
-// The factors of the skew matrix and of its square in the left Jacobian.
+// The factors of the skew matrix and of its square in the left Jacobian: the original's pair, with names.
 #[derive(Clone, Copy)]
 struct Factors {
     a: f64,

@@ -7,7 +7,7 @@ pub mod Folds
 pub mod Sums
 pub mod Skips
 pub mod Columns
-pub mod Place
+pub mod Made
 pub mod Block
 pub mod ByColumns
 pub mod Mirror

@@ -1,6 +1,6 @@
 -- Port of math/matrix.rs, for all dimensions: a matrix is the flat list of its entries, row by row; the factorisation is in drifters_cholesky.
 -- Definitions and statements only.
-use Rattle.std.specs.Prelude.{ℕ, zero, suc, ◌+◌, ◌-◌, ◌*◌, ◌/◌, ◌%◌, ◌<◌, ◌≡◌, Bool, true, false, ◌&&◌, cond, List, [], ◌∷◌, ◌++◌, eqb, leb, ltb, get_or, replicate, Float}
+use Rattle.std.specs.Prelude.{ℕ, zero, suc, ◌+◌, ◌-◌, ◌*◌, ◌/◌, ◌%◌, ◌<◌, ◌≡◌, Bool, true, false, ◌&&◌, cond, List, [], ◌∷◌, ◌++◌, eqb, leb, ltb, get_or, set, replicate, Float}
 use Rattle.std.specs.Float.{nan}
 use Rattle.std.specs.Float.Ieee.{neg, lt, eq}
 use Rattle.drifters_real.specs.Scalar.{◌⊕◌, ◌⊖◌, ◌⊗◌, plus_zero, one, half}
@@ -22,6 +22,10 @@ matrix r c f = tab (r * c) (λ n. f (n / c) (n % c))
 -- n entries of +0.0
 abbrev pub zeros : ℕ → List Float
 zeros n = replicate n plus_zero
+
+-- n numbers, a one at place k and zeros elsewhere
+abbrev pub unit : ℕ → ℕ → List Float
+unit n k = set (zeros n) k one
 
 -- the c by r matrix whose rows are the columns of an r by c matrix
 unfoldable pub transpose : ℕ → ℕ → List Float → List Float
@@ -62,6 +66,10 @@ set_block r c br bc r0 c0 m src =
     cond (block_fits r c br bc r0 c0)
     (matrix r c (λ i j. cond (in_block br bc r0 c0 i j) (at bc src (i - r0) (j - c0)) (at c m i j)))
     m
+
+-- the r by c matrix of these columns
+unfoldable pub from_columns : ℕ → ℕ → List (List Float) → List Float
+from_columns r c columns = matrix r c (λ i k. get_or (get_or columns k []) i nan)
 
 -- the block of br rows and bc columns at (r0, c0) of an r by c matrix; zeros where it does not fit
 unfoldable pub block : ℕ → ℕ → ℕ → ℕ → ℕ → ℕ → List Float → List Float

@@ -1,5 +1,4 @@
 -- The three theorems of specs/Real.antt, and below this module the laws that the proofs of math/real.rt share.
-pub mod NotANumber
 pub mod Compare
 pub mod Newton
 pub mod WholeRoot

@@ -1,13 +1,12 @@
 -- Port of group.rs: the symmetry group, its algebra, and its action on the state. Definitions only.
-use Rattle.std.specs.Prelude.{ℕ, ◌+◌, List, ◌++◌, get_or, set, Float}
+use Rattle.std.specs.Prelude.{ℕ, ◌+◌, List, ◌++◌, get_or, Float}
 use Rattle.std.specs.Float.{nan}
-use Rattle.drifters_real.specs.Scalar.{one}
-use Rattle.drifters_matrix.specs.Matrix.{matrix, zeros, matmul}
+use Rattle.drifters_matrix.specs.Matrix.{matrix, unit, matmul}
 use Rattle.drifters_core.specs.Vec3.{zero_vec3, to_array, cross, add_vec3, sub_vec3, neg_vec3, mul_vec3, mul_mat3_vec3}
 use Rattle.drifters_quat.specs.Quat.{from_rotation_vector, to_dcm}
 use Rattle.drifters_core.specs.declared.math.vec3.Vec3.{Vec3}
-use Rattle.drifters_lie.specs.Lie.{identity3, matmul3, transpose3, se23_tangent, se3_tangent, zero_se3_tangent, to_array_se23, scaled_se23, pi, to_array_se3, vec3_at, from_array_se3, bracket_se3, add_se3, sub_se3, neg_se3, left_jacobian, identity_se23, compose_se23, inverse_se23, adjoint_apply_se23, chi, exp_se23, inverse_se3, adjoint_apply_se3}
-use Rattle.drifters_adjoint.specs.Adjoint.{integrated_adjoint, scaled_se3}
+use Rattle.drifters_lie.specs.Lie.{identity3, matmul3, transpose3, se23_tangent, se3_tangent, zero_se3_tangent, to_array_se23, scaled_se23, pi, to_array_se3, vec3_at, from_array_se3, scaled_se3, bracket_se3, add_se3, sub_se3, neg_se3, left_jacobian, identity_se23, compose_se23, inverse_se23, adjoint_apply_se23, chi, exp_se23, inverse_se3, adjoint_apply_se3}
+use Rattle.drifters_adjoint.specs.Adjoint.{integrated_adjoint}
 use Rattle.drifters_symmetry.specs.declared.group.Symmetry.{Symmetry}
 use Rattle.drifters_symmetry.specs.declared.group.Algebra.{Algebra}
 use Rattle.drifters_symmetry.specs.declared.group.State.{State}
@@ -91,10 +90,6 @@ bracket u v =
       delta = add_vec3 (cross u.delta b.omega) (cross a.omega v.delta);
       e = cross u.e v.e;
     }
-
--- n numbers, a one at place k and zeros elsewhere
-abbrev pub unit : ℕ → ℕ → List Float
-unit n k = set (zeros n) k one
 
 -- the 21 by 21 matrix of the bracket with u: column k is the bracket with unit k
 unfoldable pub ad : Algebra → List Float

@@ -1,4 +1,6 @@
 // Port of lift.rs: the lift of the dynamics to the algebra, by value.
+#![tactic(auto, unfolding(crate::specs::Lift::lift))]
+
 ghost use Rattle.std.specs.Prelude.{◌≡◌};
 ghost use Rattle.drifters_symmetry.specs.Lift.{lift};
 
@@ -13,7 +15,7 @@ pub struct Input {
     pub accel: Vec3,
 }
 
-// The lift at the state xi, for the input u.
+// The lift at the state xi, for the input u. The parameters are the original's.
 pub fn lift(xi: State, u: Input, gravity: Vec3) -> Algebra
     ensures { result ≡ lift xi u gravity }
 {
@@ -24,8 +26,10 @@ pub fn lift(xi: State, u: Input, gravity: Vec3) -> Algebra
         u.accel.sub(xi.bias.nu).add(mul_vec3(r_t, gravity)),
         mul_vec3(r_t, xi.pose.velocity),
     );
-    let gamma = xi.bias.bracket(c.pi());
-    let delta = xi.lever.cross(rate);
-    let e = mul_vec3(xi.mag.transpose(), rate);
-    Algebra { c, gamma, delta, e }
+    Algebra {
+        c,
+        gamma: xi.bias.bracket(c.pi()),
+        delta: xi.lever.cross(rate),
+        e: mul_vec3(xi.mag.transpose(), rate),
+    }
 }

@@ -1,4 +1,6 @@
 // Port of linear.rs: the linearised dynamics, the output matrices, and the measurements transported into the error frame, by value.
+#![tactic(auto, unfolding(crate::specs::Linear::state_matrix, crate::specs::Linear::direction_output_matrix, crate::specs::Linear::position_output_matrix, crate::specs::Linear::velocity_output_matrix, crate::specs::Linear::transported_direction, crate::specs::Linear::transported_position, crate::specs::Linear::transported_velocity))]
+
 ghost use Rattle.std.specs.Prelude.{◌≡◌};
 ghost use Rattle.drifters_symmetry.specs.Linear.{state_matrix, skew_mean, direction_output_matrix, position_output_matrix, velocity_output_matrix, transported_direction, transported_position, transported_velocity};
 
@@ -11,7 +13,7 @@ use drifters_core::math::vec3::{Vec3, mul_vec3};
 use drifters_lie::lie::Se23Tangent;
 use drifters_matrix::math::matrix::{Mat3, Mat3x21, Mat21};
 
-// The linearised dynamics at x, for the input u.
+// The linearised dynamics at x, for the input u. The parameters here and of the output matrices are the original's.
 pub fn state_matrix(x: Symmetry, u: Input, gravity: Vec3) -> Mat21
     ensures { result.data ≡ state_matrix x u gravity }
 {

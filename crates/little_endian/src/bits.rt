@@ -1,4 +1,4 @@
-// Numbers by the bits of their format, binary64.
+// Numbers by the bits of their format, binary64. `number_of` and `bits_of` are short names for the library's long ones.
 ghost use Rattle.std.specs.Prelude.{◌≡◌};
 ghost use Rattle.std.specs.Float.{binary64};
 ghost use Rattle.std.specs.Float.Ieee.{of_bits, to_bits};
@@ -28,6 +28,7 @@ pub fn numbers_of(bits: &[u64], out: &mut [f64])
     if out.len() != bits.len() {
         return;
     }
+    // `bits` by index: after a `zip` with `iter_mut` nothing is known of what was written.
     for (i, x) in out.iter_mut().enumerate() {
         *x = number_of(bits[i]);
     }

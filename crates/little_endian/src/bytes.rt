@@ -1,5 +1,6 @@
-// Whole numbers in bytes, lowest byte first. Bytes past the end read as 0; a write that does not fit changes nothing. A run and a place in it are two
-// parameters, since callers read tables by places.
+// Whole numbers in bytes, lowest byte first. Bytes past the end read as 0; a write that does not fit changes nothing. So each function answers for every
+// place: no public function has a condition on its values (docs/DECISIONS.md). No `None`: whoever reads a file tests its length before, as the layout
+// of a sheet asks. A run and a place in it are two parameters, since callers read tables by places.
 ghost use Rattle.std.specs.Prelude.{◌≡◌, ℕ, ◌+◌, ◌<◌, length};
 ghost use Rattle.little_endian.specs.Bytes.{byte_at, u32_at, u64_at, u64s_at, with_u32};
 
@@ -17,7 +18,7 @@ pub fn u64_at(s: &[u8], at: usize) -> u64
     u64::from_le_bytes(bytes_at(s, at))
 }
 
-// The u64s from a place on, as many as `out` has places.
+// The u64s from a place on, as many as `out` has places. The bytes by the index: after a `zip` with `iter_mut` nothing is known of what was written.
 pub fn u64s_at(s: &[u8], at: usize, out: &mut [u64])
     ensures { out.new ≡ u64s_at (length out.old) s.now at }
 {

@@ -2,7 +2,7 @@
 use call_sheet::sheet::{MOST_CALLS, MOST_NUMBERS, read_sheet};
 use drifters_entry::entry::FILTER_LENGTH;
 use drifters_kind::kind::Kind;
-use little_endian::bits::numbers_of;
+use little_endian::bits::number_of;
 use replay_lists::call_digest::ANSWER_BYTES;
 use replay_lists::calls::run_call;
 use replay_lists::tally::{Tally, unread};
@@ -32,8 +32,7 @@ fn replay_sheet(rt: &impl Print, name: &str, sheet: &[u8], answers: &[u8]) -> io
     let mut bits = [0; MOST_NUMBERS];
     match read_sheet(sheet, &mut filter, &mut kinds, &mut bits) {
         Ok(n) if n == answers.len() / ANSWER_BYTES => {
-            let mut run = [0.0; FILTER_LENGTH];
-            numbers_of(&filter, &mut run);
+            let mut run = filter.map(number_of);
             let tally = run_calls(&mut run, &kinds, &bits, answers);
             println!(rt; "{name}: {tally}")?;
             Ok(tally)

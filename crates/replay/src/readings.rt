@@ -1,5 +1,5 @@
 // Readings that are run, not proved: the lengths of the runs, and the text of sheets.
-ghost use Rattle.std.specs.Prelude.{◌≤◌};
+ghost use Rattle.std.specs.Prelude.{◌+◌, ◌≤◌};
 
 use call_sheet::run::{MOST_TEXT, sheet_text};
 use call_sheet::sheet::MOST_BYTES;
@@ -10,33 +10,46 @@ use replay_lists::tally::unread;
 use std::rt::Files;
 use std::{fs, io};
 
-// The answer to a call of a kind on zeros, `less` numbers fewer than one too many: 1 gives the stated length.
-fn called(kind: Kind, run: &mut [f64], less: usize) -> Answer
-    requires { less ≤ 2 }
-{
+// How many numbers are lent, by how many are stated.
+#[derive(Clone, Copy)]
+enum Lent {
+    Fewer,
+    Stated,
+    More,
+}
+
+impl Lent {
+    // One fewer than n, n, or one more. Of none, one fewer is none too.
+    fn length(self, n: usize) -> usize
+        ensures { result ≤ n + 1 }
+    {
+        match self {
+            Lent::Fewer => n.saturating_sub(1),
+            Lent::Stated => n,
+            Lent::More => n.saturating_add(1),
+        }
+    }
+}
+
+// The answer to a call of a kind on zeros.
+fn called(kind: Kind, run: &mut [f64], lent: Lent) -> Answer {
     let numbers = [0.0; MOST_CALL_NUMBERS + 1];
-    filter_call(
-        kind,
-        run,
-        &numbers[..(kind.call_length() + 1).saturating_sub(less)],
-    )
+    filter_call(kind, run, &numbers[..lent.length(kind.call_length())])
 }
 
 // How many of the eight entries are refused by length.
-fn refused(run: &mut [f64], less: usize) -> usize
-    requires { less ≤ 2 }
-{
+fn refused(run: &mut [f64], lent: Lent) -> usize {
     let mut state = [0.0; STATE_LENGTH + 1];
     let numbers = [0.0; START_LENGTH + 1];
     let answers = [
-        called(Kind::Propagate, run, less),
-        called(Kind::General, run, less),
-        called(Kind::Scalar, run, less),
-        called(Kind::Position, run, less),
-        called(Kind::Velocity, run, less),
-        called(Kind::Direction, run, less),
-        nav_state(run, &mut state[..STATE_LENGTH + 1 - less]),
-        start(run, &numbers[..START_LENGTH + 1 - less]),
+        called(Kind::Propagate, run, lent),
+        called(Kind::General, run, lent),
+        called(Kind::Scalar, run, lent),
+        called(Kind::Position, run, lent),
+        called(Kind::Velocity, run, lent),
+        called(Kind::Direction, run, lent),
+        nav_state(run, &mut state[..lent.length(STATE_LENGTH)]),
+        start(run, &numbers[..lent.length(START_LENGTH)]),
     ];
     answers
         .iter()
@@ -45,10 +58,8 @@ fn refused(run: &mut [f64], less: usize) -> usize
 }
 
 // Prints how many of the eight entries are refused by length.
-fn print_refused(rt: &impl Print, name: &str, run: &mut [f64], less: usize) -> io::Result<()>
-    requires { less ≤ 2 }
-{
-    let n = refused(run, less);
+fn print_refused(rt: &impl Print, name: &str, run: &mut [f64], lent: Lent) -> io::Result<()> {
+    let n = refused(run, lent);
     println!(rt; "{name}: {n} of 8 entries refused 1")
 }
 
@@ -57,11 +68,11 @@ pub(crate) fn print_lengths(rt: &impl Print) -> io::Result<()> {
     let mut short = [0.0; FILTER_LENGTH - 1];
     let mut run = [0.0; FILTER_LENGTH];
     let mut long = [0.0; FILTER_LENGTH + 1];
-    print_refused(rt, "a filter one number short", &mut short, 1)?;
-    print_refused(rt, "a filter one number long", &mut long, 1)?;
-    print_refused(rt, "a number too few", &mut run, 2)?;
-    print_refused(rt, "a number too many", &mut run, 0)?;
-    print_refused(rt, "every length as stated", &mut run, 1)
+    print_refused(rt, "a filter one number short", &mut short, Lent::Stated)?;
+    print_refused(rt, "a filter one number long", &mut long, Lent::Stated)?;
+    print_refused(rt, "a number too few", &mut run, Lent::Fewer)?;
+    print_refused(rt, "a number too many", &mut run, Lent::More)?;
+    print_refused(rt, "every length as stated", &mut run, Lent::Stated)
 }
 
 // A sheet's file as the program `sheet` prints it.

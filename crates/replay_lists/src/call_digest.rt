@@ -15,12 +15,13 @@ pub(crate) const UNTOUCHED: f64 = 1.5;
 #[derive(Clone, Copy)]
 pub struct CallDigest {
     pub(crate) answer: Answer,
-    // The digest of the run lent for a state; by several compasses, which was chosen and how many were tried.
+    // The third number of a stored answer: the digest of the run lent for a state; by several compasses, which was chosen and how many were tried;
+    // else 0.
     pub(crate) more: u64,
     pub(crate) filter: u64,
 }
 
-// An answer as it is stored.
+// An answer as it is stored: these four numbers, so coded, are what the files hold (../replay/README.md, 'An answer').
 #[derive(Clone, Copy, PartialEq, Eq)]
 pub(crate) struct Stored {
     // 0 for ok, 256 for a NIS, else the number of the refusal.
@@ -33,7 +34,7 @@ pub(crate) struct Stored {
 }
 
 impl Stored {
-    // The answer in the 32 bytes from a place on.
+    // The answer in the 32 bytes from a place on: a run and a place, since an answer follows the numbers of its call in one record.
     pub(crate) fn at(s: &[u8], at: usize) -> Stored {
         let [code, nis, more, filter]: [u64; 4] = bits_at(s, at);
         Stored {

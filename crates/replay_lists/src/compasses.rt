@@ -1,15 +1,16 @@
 // Updates by several compasses against the original's answers. The file has the filters, then the calls, each with its answer.
 use crate::call_digest::{ANSWER_BYTES, CallDigest};
 use crate::digest::digest;
-use crate::numbers::{bits_at, numbers_at};
-use crate::tally::{OfCompasses, Tally, unread};
+use crate::numbers::{bits_at, numbers_at, read_path};
+use crate::tally::{OfCompasses, Tally, print_line, unread};
 use drifters_compasses::compasses::{
     MOST_READINGS, NORTH_NOISE_LENGTH, READING_LENGTH, Tried, update_compasses,
 };
 use drifters_entry::entry::FILTER_LENGTH;
 use drifters_eqf::answer::Refusal;
+use std::io;
+use std::io::AsBytes;
 use std::rt::Files;
-use std::{fs, io};
 
 // How many filters and how many calls the file has.
 const FILTERS: usize = 8;
@@ -50,7 +51,7 @@ fn counts(index: usize, tried: usize) -> u64 {
     index as u64 % 0x1_0000_0000 * 0x1_0000_0000 + tried as u64 % 0x1_0000_0000
 }
 
-// An answer in the manner of a single update's: a NIS where a reading was chosen, ok where none was.
+// An answer in the manner of a single update's: a NIS where a reading was chosen, ok where none was, with index 0, as such an answer is stored.
 fn call_digest(answer: Result<Tried, Refusal>, filter: u64) -> CallDigest {
     match answer {
         Ok(Tried { tried, best }) => CallDigest {
@@ -101,14 +102,14 @@ fn run_all(filters: &[u8], calls: &[u8]) -> Tally {
 // Replays the file of the compasses.
 pub fn replay_compasses<R: Files + Print + Alloc>(
     rt: &R,
-    name: &str,
-    path: &str,
+    name: impl AsBytes + Drop,
+    path: impl AsBytes + Drop,
 ) -> io::Result<()> {
-    match fs::read(rt, path) {
+    match read_path(rt, path) {
         Ok(s) if s.len() == FILE_BYTES => {
             let (filters, calls) = s.split_at(FILTERS_BYTES);
             let tally = OfCompasses(run_all(filters, calls));
-            println!(rt; "{name}: {tally}")
+            print_line(rt, name, tally)
         }
         _ => {
             unread(rt, name)?;

@@ -19,21 +19,24 @@ struct Sums {
     b: u32,
 }
 
-fn add_half(sums: Sums, half: u64) -> Sums {
-    let h = half % 0x1_0000_0000;
-    Sums {
-        a: ((u64::from(sums.a) * A + h) % M) as u32,
-        b: ((u64::from(sums.b) * B + h) % M) as u32,
+impl Sums {
+    // With the lower half of 64 bits.
+    fn add_half(self, half: u64) -> Sums {
+        let h = half % 0x1_0000_0000;
+        Sums {
+            a: ((u64::from(self.a) * A + h) % M) as u32,
+            b: ((u64::from(self.b) * B + h) % M) as u32,
+        }
     }
-}
 
-fn add_number(sums: Sums, x: f64) -> Sums {
-    let bits = bits_of(x);
-    add_half(add_half(sums, bits >> 32), bits)
+    fn add_number(self, x: f64) -> Sums {
+        let bits = bits_of(x);
+        self.add_half(bits >> 32).add_half(bits)
+    }
 }
 
 pub(crate) fn digest(numbers: &[f64]) -> u64 {
     let zero = Sums { a: 0, b: 0 };
-    let sums = numbers.iter().fold(zero, |sums, x| add_number(sums, *x));
+    let sums = numbers.iter().fold(zero, |sums, x| sums.add_number(*x));
     u64::from(sums.a) << 32 | u64::from(sums.b)
 }

@@ -1,11 +1,12 @@
 // The starts of a file against the original's answers, which stand beside the numbers of each.
 use crate::call_digest::{ANSWER_BYTES, CallDigest, UNTOUCHED};
 use crate::digest::digest;
-use crate::numbers::numbers_at;
-use crate::tally::{Tally, unread};
+use crate::numbers::{numbers_at, read_path};
+use crate::tally::{Tally, print_line, unread};
 use drifters_entry::entry::{FILTER_LENGTH, START_LENGTH, start};
+use std::io;
+use std::io::AsBytes;
 use std::rt::Files;
-use std::{fs, io};
 
 // How many starts the file has.
 const STARTS: usize = 24;
@@ -40,13 +41,13 @@ fn run_starts(s: &[u8]) -> Tally {
 // Replays the file of the starts.
 pub fn replay_starts<R: Files + Print + Alloc>(
     rt: &R,
-    name: &str,
-    path: &str,
+    name: impl AsBytes + Drop,
+    path: impl AsBytes + Drop,
 ) -> io::Result<Tally> {
-    match fs::read(rt, path) {
+    match read_path(rt, path) {
         Ok(s) if s.len() == START_BYTES * STARTS => {
             let tally = run_starts(&s);
-            println!(rt; "{name}: {tally}")?;
+            print_line(rt, name, tally)?;
             Ok(tally)
         }
         _ => unread(rt, name),

@@ -1,6 +1,7 @@
 // How many calls gave each answer, and how many answered otherwise than the original.
 use crate::call_digest::{CallDigest, Stored};
 use drifters_eqf::answer::{Answer, Refusal};
+use std::io::AsBytes;
 use std::num::Wrapping;
 use std::ops::Add;
 use std::{fmt, io};
@@ -17,6 +18,7 @@ struct Differing {
     first: Option<Count>,
 }
 
+// A counter for each answer, by name: a map would be no plainer, and each line prints some of them at their places.
 #[derive(Clone, Copy, Default)]
 pub struct Tally {
     calls: Count,
@@ -53,7 +55,7 @@ impl Tally {
         }
     }
 
-    // One call more: what came of it, and the original's answer from a place on.
+    // One call more: what came of it, and the original's answer from a place on. A run and a place, since an answer follows the numbers in one record.
     pub fn compare(&mut self, given: CallDigest, answers: &[u8], at: usize) {
         let same = Stored::from(given) == Stored::at(answers, at);
         self.count(given.answer, same);
@@ -158,8 +160,19 @@ impl fmt::Display for OfValues {
     }
 }
 
-// Says that a list's files are missing or do not fit each other: no call is made.
-pub fn unread(rt: &impl Print, name: &str) -> io::Result<Tally> {
-    println!(rt; "{name}: cannot be read")?;
+// Says that a list's files are missing or do not fit each other: no call is made. The tally is empty and no error, so that the other lists are still
+// replayed; the line said differs from the stored one, and so the gate fails.
+pub fn unread(rt: &impl Print, name: impl AsBytes + Drop) -> io::Result<Tally> {
+    print_line(rt, name, "cannot be read")?;
     Ok(Tally::default())
+}
+
+// A line of a list: its name, and what is said of it.
+pub(crate) fn print_line(
+    rt: &impl Print,
+    name: impl AsBytes + Drop,
+    line: impl fmt::Display + Drop,
+) -> io::Result<()> {
+    rt.write_all(name.as_byte_slice())?;
+    println!(rt; ": {line}")
 }

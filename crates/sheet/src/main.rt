@@ -6,7 +6,7 @@ use call_sheet::sheet::MOST_BYTES;
 use sheet_file::read_file;
 use std::io;
 
-// A file that cannot be read is run as an empty one, which is no sheet.
+// A file that cannot be read is run as an empty one, which is no sheet. An array and no `Vec`: so a file of any length is refused without a heap.
 fn main(rt: HostRuntime) -> io::Result<()> {
     let mut bytes = [0; MOST_BYTES];
     let n = read_file(&rt, b"sheet.bin", &mut bytes).unwrap_or(0);

@@ -1,19 +1,15 @@
 // Runs call sheets with every kind of call and at the edges of the layout, and prints what each is and its text.
 #![tactic(auto)]
 
-ghost use Rattle.std.specs.Prelude.{◌+◌, ◌≤◌, ◌<◌};
-
 use call_sheet::run::{MOST_TEXT, run_sheet, sheet_text};
 use call_sheet::sheet::MOST_BYTES;
 use drifters_entry::entry::FILTER_LENGTH;
 use drifters_eqf::answer::Refusal;
-use little_endian::bytes::put_u32;
+use drifters_kind::kind::Kind;
 use sheet_file::{counted, read_file};
+use std::alloc::Allocator;
 use std::io;
 use std::rt::Files;
-
-// Room for the sheets that are made here, the longest of them longer than a sheet may be.
-const ROOM: usize = MOST_BYTES + 8;
 
 // The bytes of a filter.
 const FILTER_BYTES: usize = 8 * FILTER_LENGTH;
@@ -30,10 +26,13 @@ const END: usize = BODY + 8 * 12;
 // Where a scalar update ends there: it has 23 numbers.
 const SCALAR_END: usize = BODY + 8 * 23;
 
-// Numbers that no kind has: the first after the kinds, and the highest there is.
-const NO_KIND: u32 = 8;
+// The bytes of a file that is longer than a sheet may be.
+const LONG: usize = MOST_BYTES + 1;
 
-const HIGHEST: u32 = 4294967295;
+// The number of a filter, and the first after the kinds, which no kind has.
+const FILTER: u32 = 0;
+
+const NO_KIND: u32 = 8;
 
 // What a sheet is, and its text.
 fn report(rt: &impl Print, name: &str, sheet: &[u8]) -> io::Result<()> {
@@ -43,83 +42,97 @@ fn report(rt: &impl Print, name: &str, sheet: &[u8]) -> io::Result<()> {
     rt.write_all(&text[..length])
 }
 
-// The sheet in a file; one that cannot be read is run as an empty one.
-fn file<R: Files + Print>(rt: &R, name: &str, path: &str) -> io::Result<()> {
-    let mut bytes = [0; MOST_BYTES];
-    let n = read_file(rt, path.as_bytes(), &mut bytes).unwrap_or(0);
+// The sheet in a file, read into the run that is lent; one that cannot be read is run as an empty one.
+fn file<R: Files + Print>(rt: &R, name: &str, path: &str, bytes: &mut [u8]) -> io::Result<()> {
+    let n = read_file(rt, path.as_bytes(), bytes).unwrap_or(0);
     report(rt, name, &bytes[..n])
 }
 
-// Entry i of a table: its kind, and the offset of its body. The kind is a number here, since numbers of no kind are written too. The bounds of these
-// functions are those of the room, and no caller has others.
-fn put_entry(bytes: &mut [u8; ROOM], i: usize, kind: u32, offset: u32)
-    requires { i < 257 }
-{
-    put_u32(bytes, 4 + 8 * i, kind);
-    put_u32(bytes, 8 + 8 * i, offset);
+// A number, lowest byte first.
+fn push<A: Allocator>(bytes: &mut Vec<u8, A>, n: u32) -> io::Result<()> {
+    bytes.extend_from_slice(&n.to_le_bytes())?;
+    Ok(())
 }
 
-// Entries from i to n - 1 of one kind, with bodies of `size` bytes, the first at `offset`.
-fn put_entries(bytes: &mut [u8; ROOM], i: usize, n: usize, kind: u32, size: u32, offset: u32)
-    requires { (n ≤ 257) × (size ≤ 600) × (offset ≤ 70000) }
-{
+// An entry of a table: its kind, and the offset of its body, modulo 2^32, so that no bound has to be kept. The kind is a number here, since numbers of
+// no kind are written too.
+fn push_entry<A: Allocator>(bytes: &mut Vec<u8, A>, kind: u32, offset: usize) -> io::Result<()> {
+    push(bytes, kind)?;
+    push(bytes, (offset % 0x1_0000_0000) as u32)
+}
+
+// Entries of n calls of a kind, the first body at `offset`. Answers where the last body ends; this wraps, so that no bound has to be kept.
+fn push_calls<A: Allocator>(
+    bytes: &mut Vec<u8, A>,
+    n: u16,
+    kind: Kind,
+    offset: usize,
+) -> io::Result<usize> {
     let mut end = offset;
-    for k in i..n {
-        put_entry(bytes, k, kind, end);
-        end += size;
+    for _ in 0..n {
+        push_entry(bytes, kind.form().number, end)?;
+        end = end.wrapping_add(8 * kind.call_length());
     }
+    Ok(end)
 }
 
-// The sheet in the first `length` bytes. They come by value, so that their number is known.
-fn report_front(rt: &impl Print, name: &str, bytes: [u8; ROOM], length: usize) -> io::Result<()>
-    requires { length ≤ 65544 }
-{
-    report(rt, name, &bytes[..length])
+// A count of n entries, and the entry of a filter right after the table, as each sheet begins. Answers where the filter ends.
+fn push_front<A: Allocator>(bytes: &mut Vec<u8, A>, n: u16) -> io::Result<usize> {
+    let offset = 4 + 8 * usize::from(n);
+    push(bytes, u32::from(n))?;
+    push_entry(bytes, FILTER, offset)?;
+    Ok(offset + FILTER_BYTES)
+}
+
+// The sheet that begins with these bytes, a count and a table; its bodies are zeros, in a file of `length` bytes.
+fn report_zeros<R: Print, A: Allocator>(
+    rt: &R,
+    name: &str,
+    mut bytes: Vec<u8, A>,
+    length: usize,
+) -> io::Result<()> {
+    bytes.resize(length, 0)?;
+    report(rt, name, &bytes)
 }
 
 // A filter of zeros alone, by its entry.
-fn filter_entry(rt: &impl Print, name: &str, kind: u32, offset: u32) -> io::Result<()> {
-    let mut bytes = [0; ROOM];
-    put_u32(&mut bytes, 0, 1);
-    put_entry(&mut bytes, 0, kind, offset);
-    report_front(rt, name, bytes, ALONE)
+fn filter_entry<R: Print + Alloc>(rt: &R, name: &str, kind: u32, offset: usize) -> io::Result<()> {
+    let mut bytes = Vec::new(rt.alloc());
+    push(&mut bytes, 1)?;
+    push_entry(&mut bytes, kind, offset)?;
+    report_zeros(rt, name, bytes, ALONE)
 }
 
 // A filter of zeros and one call, its body at `offset`, in a file of `length` bytes.
-fn one_call(rt: &impl Print, name: &str, kind: u32, offset: usize, length: usize) -> io::Result<()>
-    requires { (offset ≤ 65544) × (length ≤ 65544) }
-{
-    let mut bytes = [0; ROOM];
-    put_u32(&mut bytes, 0, 2);
-    put_entry(&mut bytes, 0, 0, 20);
-    put_entry(&mut bytes, 1, kind, offset as u32);
-    report_front(rt, name, bytes, length)
+fn one_call<R: Print + Alloc>(
+    rt: &R,
+    name: &str,
+    kind: u32,
+    offset: usize,
+    length: usize,
+) -> io::Result<()> {
+    let mut bytes = Vec::new(rt.alloc());
+    push_front(&mut bytes, 2)?;
+    push_entry(&mut bytes, kind, offset)?;
+    report_zeros(rt, name, bytes, length)
 }
 
 // A sheet of n entries: a filter of zeros, and state calls, whose bodies are empty.
-fn states(rt: &impl Print, name: &str, n: usize) -> io::Result<()>
-    requires { n ≤ 257 }
-{
-    let mut bytes = [0; ROOM];
-    let end = 4 + 8 * n + FILTER_BYTES;
-    put_u32(&mut bytes, 0, n as u32);
-    put_entry(&mut bytes, 0, 0, (4 + 8 * n) as u32);
-    put_entries(&mut bytes, 1, n, 6, 0, end as u32);
-    report_front(rt, name, bytes, end)
+fn states<R: Print + Alloc>(rt: &R, name: &str, n: u16) -> io::Result<()> {
+    let mut bytes = Vec::new(rt.alloc());
+    let end = push_front(&mut bytes, n)?;
+    push_calls(&mut bytes, n.saturating_sub(1), Kind::State, end)?;
+    report_zeros(rt, name, bytes, end)
 }
 
-// A sheet of n entries: a filter of zeros, 101 general updates, a propagation, and state calls, in a file of `length` bytes.
-fn long(rt: &impl Print, name: &str, n: usize, length: usize) -> io::Result<()>
-    requires { (n ≤ 257) × (length ≤ 65544) }
-{
-    let mut bytes = [0; ROOM];
-    put_u32(&mut bytes, 0, n as u32);
-    put_entry(&mut bytes, 0, 0, (4 + 8 * n) as u32);
-    let updates = (4 + 8 * n + FILTER_BYTES) as u32;
-    put_entries(&mut bytes, 1, 102, 5, 600, updates);
-    put_entries(&mut bytes, 102, 103, 1, 200, updates + 60600);
-    put_entries(&mut bytes, 103, n, 6, 0, updates + 60800);
-    report_front(rt, name, bytes, length)
+// A sheet of n entries: a filter of zeros, 101 general updates, a propagation, and state calls.
+fn long<R: Print + Alloc>(rt: &R, name: &str, n: u16) -> io::Result<()> {
+    let mut bytes = Vec::new(rt.alloc());
+    let updates = push_front(&mut bytes, n)?;
+    let propagation = push_calls(&mut bytes, 101, Kind::General, updates)?;
+    let end = push_calls(&mut bytes, 1, Kind::Propagate, propagation)?;
+    push_calls(&mut bytes, n.saturating_sub(103), Kind::State, end)?;
+    report_zeros(rt, name, bytes, end)
 }
 
 // A text run that is a byte too short is refused 1.
@@ -132,19 +145,26 @@ fn short_text(rt: &impl Print) -> io::Result<()> {
 }
 
 // A filter of zeros and one call: in its place, and out of it.
-fn one_calls(rt: &impl Print) -> io::Result<()> {
-    one_call(rt, "a position call", 2, BODY, END)?;
-    one_call(rt, "a gap", 2, BODY + 8, END + 8)?;
-    one_call(rt, "an offset too high", 2, BODY + 8, END)?;
-    one_call(rt, "an overlap", 2, BODY - 8, END - 8)?;
-    one_call(rt, "an offset too low", 2, BODY - 8, END)?;
-    one_call(rt, "a byte too many", 2, BODY, END + 1)?;
-    one_call(rt, "a byte too few", 2, BODY, END - 1)?;
-    one_call(rt, "a state call", 6, BODY, BODY)?;
-    one_call(rt, "a scalar update", 7, BODY, SCALAR_END)?;
+fn one_calls<R: Print + Alloc>(rt: &R) -> io::Result<()> {
+    let position = Kind::Position.form().number;
+    one_call(rt, "a position call", position, BODY, END)?;
+    one_call(rt, "a gap", position, BODY + 8, END + 8)?;
+    one_call(rt, "an offset too high", position, BODY + 8, END)?;
+    one_call(rt, "an overlap", position, BODY - 8, END - 8)?;
+    one_call(rt, "an offset too low", position, BODY - 8, END)?;
+    one_call(rt, "a byte too many", position, BODY, END + 1)?;
+    one_call(rt, "a byte too few", position, BODY, END - 1)?;
+    one_call(rt, "a state call", Kind::State.form().number, BODY, BODY)?;
+    one_call(
+        rt,
+        "a scalar update",
+        Kind::Scalar.form().number,
+        BODY,
+        SCALAR_END,
+    )?;
     one_call(rt, "the first number of no kind", NO_KIND, BODY, SCALAR_END)?;
-    one_call(rt, "the highest number", HIGHEST, BODY, END)?;
-    one_call(rt, "a second filter", 0, BODY, BODY + FILTER_BYTES)
+    one_call(rt, "the highest number", u32::MAX, BODY, END)?;
+    one_call(rt, "a second filter", FILTER, BODY, BODY + FILTER_BYTES)
 }
 
 // How many bytes count; of what cannot be read none.
@@ -153,28 +173,13 @@ fn print_count(rt: &impl Print, name: &str, count: io::Result<usize>) -> io::Res
     println!(rt; "{name}: {n} bytes")
 }
 
-// A file of 65,537 bytes in a run that holds it, and in one that is a byte too short.
-fn long_file<R: Files + Print>(rt: &R) -> io::Result<()> {
-    let mut whole = [0; MOST_BYTES + 1];
-    let count = read_file(rt, b"long.bin", &mut whole);
-    print_count(rt, "a file in a run of its length", count)?;
-    let mut short = [0; MOST_BYTES];
-    let count = read_file(rt, b"long.bin", &mut short);
-    print_count(rt, "in a run a byte shorter", count)
+// How many bytes count of a file of LONG bytes in the run that is lent.
+fn long_file<R: Files + Print>(rt: &R, name: &str, bytes: &mut [u8]) -> io::Result<()> {
+    let count = read_file(rt, b"long.bin", bytes);
+    print_count(rt, name, count)
 }
 
-// The same file in a run that holds a sheet of a filter and a state call: what the file begins with.
-fn sheet_and_more<R: Files + Print>(rt: &R) -> io::Result<()> {
-    let mut bytes = [0; BODY];
-    let n = read_file(rt, b"long.bin", &mut bytes).unwrap_or(0);
-    report(
-        rt,
-        "a sheet, and more bytes than the run holds",
-        &bytes[..n],
-    )
-}
-
-// What counts of the bytes of such a sheet by the answer of one further read.
+// What counts of BODY bytes that were read, a sheet of a filter and a state call, by the answer of one further read.
 fn further_reads(rt: &impl Print) -> io::Result<()> {
     let failure = Err(io::Error::from(io::ErrorKind::Other));
     print_count(rt, "3844 bytes, then the end", counted(BODY, Ok(0)))?;
@@ -182,28 +187,40 @@ fn further_reads(rt: &impl Print) -> io::Result<()> {
     print_count(rt, "3844 bytes, then a failure", counted(BODY, failure))
 }
 
-// What is read of files, and what of it counts.
+// What is read of files, and what of it counts: a file in a run that holds it, in one a byte shorter, and in one that holds a sheet of a filter and a
+// state call, which the file begins with.
 fn files<R: Files + Print>(rt: &R) -> io::Result<()> {
-    file(rt, "a folder", ".")?;
-    long_file(rt)?;
-    sheet_and_more(rt)?;
+    file(rt, "a folder", ".", &mut [0; MOST_BYTES])?;
+    long_file(rt, "a file in a run of its length", &mut [0; LONG])?;
+    long_file(rt, "in a run a byte shorter", &mut [0; MOST_BYTES])?;
+    file(
+        rt,
+        "a sheet, and more bytes than the run holds",
+        "long.bin",
+        &mut [0; BODY],
+    )?;
     further_reads(rt)
 }
 
 fn main(rt: HostRuntime) -> io::Result<()> {
-    file(&rt, "every kind and every refusal", "flight.bin")?;
-    file(&rt, "large numbers", "overflow.bin")?;
-    file(&rt, "no such file", "missing.bin")?;
+    file(
+        &rt,
+        "every kind and every refusal",
+        "flight.bin",
+        &mut [0; MOST_BYTES],
+    )?;
+    file(&rt, "large numbers", "overflow.bin", &mut [0; MOST_BYTES])?;
+    file(&rt, "no such file", "missing.bin", &mut [0; MOST_BYTES])?;
     report(&rt, "an empty file", b"")?;
     states(&rt, "no entries", 0)?;
     states(&rt, "a filter alone", 1)?;
     states(&rt, "256 entries", 256)?;
     states(&rt, "257 entries", 257)?;
     filter_entry(&rt, "a filter of kind 1", 1, 12)?;
-    filter_entry(&rt, "a filter at 13", 0, 13)?;
+    filter_entry(&rt, "a filter at 13", FILTER, 13)?;
     one_calls(&rt)?;
-    long(&rt, "the longest sheet", 113, 65532)?;
-    long(&rt, "a longer one", 114, 65540)?;
+    long(&rt, "the longest sheet", 113)?;
+    long(&rt, "a longer one", 114)?;
     short_text(&rt)?;
     files(&rt)
 }

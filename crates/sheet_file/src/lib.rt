@@ -1,4 +1,5 @@
-// Reads a whole file into a lent run of bytes.
+// Reads a whole file into a lent run of bytes. No `Vec`: no more is read than the run holds and one byte, so that a file of any length is refused without
+// a heap.
 #![tactic(auto)]
 
 ghost use Rattle.std.specs.Prelude.{◌≡◌, take, IfOk, IfSome};
@@ -47,11 +48,12 @@ pub fn read_whole<R: Read>(reader: &mut R, bytes: &mut [u8]) -> io::Result<usize
 }
 
 // The file's bytes at the front of `bytes`; answers how many there are. It fails where the file cannot be read to its end, or is longer than `bytes`.
-// The library opens a path by its text, so a path that is no UTF-8 is of no file.
+// The path is bytes, so that a caller may hand any: a `&str` would ask that they are UTF-8. The library opens a path by its text, so a path that is
+// no UTF-8 is of no file.
 pub fn read_file<R: Files>(rt: &R, path: &[u8], bytes: &mut [u8]) -> io::Result<usize>
     ensures { ReadsAtMost result bytes.new }
 {
-    let path = str::from_utf8(path).map_err(|_| io::Error::from(ErrorKind::NotFound))?;
+    let path = str::from_utf8(path).map_err(|_| ErrorKind::NotFound)?;
     let mut file = fs::open(rt, path)?;
     read_whole(&mut file, bytes)
 }

@@ -23,7 +23,3 @@ added_next {terms} {sums} {k} {term} {psi} {term'} {psi'} times plus term-next s
     let d : suc (k - 1) + 1 ≡ k + 1 = omega (arith, h.first) in
     let made : term' ≡ terms (suc (k - 1)) = rw (term-next, d, ← h.term_is) e in
     record { first = omega arith; last = omega arith; term_is = rw j made; psi_is = rw (j, sum_next, ← made, ← h.psi_is) z }
-
--- all 15 added
-pub added_done : {terms sums : ℕ → List Float} {k : ℕ} {term psi : List Float} → Added terms sums k term psi → 16 ≤ k → psi ≡ sums 15
-added_done {terms} {sums} {k} h b = let e : k - 1 ≡ 15 = omega (arith, h.last) in rw (← e) h.psi_is

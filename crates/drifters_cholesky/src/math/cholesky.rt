@@ -9,7 +9,8 @@ use drifters_real::math::real::{is_finite, sqrt};
 
 // The lower factor of the n by n matrix `a`, of which the lower triangle is read, into `l`, which is all zeros. False at the first
 // bad pivot: one that is not finite, or at most 0.
-// The labelled loops by index are the form that document 01 names for the factorisation (docs/DECISIONS.md, 'Document 01's forms').
+// The labelled loops by index, left from inside, are the form that document 01 names for the factorisation (docs/DECISIONS.md, 'Document 01's forms'):
+// what they leave is a flag, of which `new` makes the Option.
 fn cholesky_into(a: &[f64], l: &mut [f64], n: usize) -> bool
     requires { (length a.now ≡ n * n) × (l.old ≡ zeros (n * n)) }
     ensures { cholesky n a.now ≡ cond result (lower l.new) none }
@@ -35,53 +36,8 @@ fn cholesky_into(a: &[f64], l: &mut [f64], n: usize) -> bool
     definite
 }
 
-// Row i of a substitution: less the products of the rows `from` to `to` of `x` with their factors, and divided by the pivot. The factor of
-// row k stands in `l` at k * stride + start. By index: row i of `x` is changed while rows k of it are read.
-fn substitute_row(
-    l: &[f64],
-    x: &mut [f64],
-    n: usize,
-    c: usize,
-    i: usize,
-    from: usize,
-    to: usize,
-    start: usize,
-    stride: usize,
-)
-    requires { (length l.now ≡ n * n) × (length x.old ≡ n * c) × (i < n) × (from ≤ to) × (to ≤ n) × ((k : ℕ) → from ≤ k → k < to → (k ≢ i) × (k * stride + start < n * n)) }
-    ensures { x.new ≡ substituted n c l.now i (λ k. get_or l.now (k * stride + start) nan) from (to - from) x.old }
-{
-    for j in 0..c {
-        let mut sum = x[i * c + j];
-        for k in from..to {
-            sum = sum - l[k * stride + start] * x[k * c + j];
-        }
-        x[i * c + j] = sum / l[i * n + i];
-    }
-}
-
-// Forward substitution: L Y = B, the n by c matrix `x` from B to Y.
-fn forward_in(l: &[f64], x: &mut [f64], n: usize, c: usize)
-    requires { (length l.now ≡ n * n) × (length x.old ≡ n * c) }
-    ensures { x.new ≡ forward n c l.now x.old n }
-{
-    for i in 0..n {
-        substitute_row(l, x, n, c, i, 0, i, i * n, 1);
-    }
-}
-
-// Back substitution: Lᵀ X = Y, the n by c matrix `x` from Y to X.
-fn back_in(l: &[f64], x: &mut [f64], n: usize, c: usize)
-    requires { (length l.now ≡ n * n) × (length x.old ≡ n * c) }
-    ensures { x.new ≡ back n c l.now x.old n }
-{
-    for p in 0..n {
-        let i = n - 1 - p;
-        substitute_row(l, x, n, c, i, i + 1, n, i, n);
-    }
-}
-
-// The Cholesky factorisation A = L Lᵀ of an N by N matrix of NN entries.
+// The Cholesky factorisation A = L Lᵀ of an N by N matrix. NN is N * N, and NC below N * C: a const argument cannot be computed, so each method asks
+// it, as those of `Matrix` do.
 #[derive(Clone, Copy)]
 pub struct Cholesky<const N: usize, const NN: usize> {
     pub lower: Matrix<N, N, NN>,
@@ -106,9 +62,55 @@ impl<const N: usize, const NN: usize> Cholesky<N, NN> {
         requires { (NN ≡ N * N) × (NC ≡ N * C) }
         ensures { result.data ≡ solve N C self.now.lower.data b.now.data }
     {
-        let mut data = b.data;
-        forward_in(&self.lower.data, &mut data, N, C);
-        back_in(&self.lower.data, &mut data, N, C);
-        Matrix { data }
+        let mut x = *b;
+        self.forward_in(&mut x);
+        self.back_in(&mut x);
+        x
+    }
+
+    // Forward substitution: L Y = B, `x` from B to Y.
+    fn forward_in<const C: usize, const NC: usize>(&self, x: &mut Matrix<N, C, NC>)
+        requires { (NN ≡ N * N) × (NC ≡ N * C) }
+        ensures { x.new.data ≡ forward N C self.now.lower.data x.old.data N }
+    {
+        for i in 0..N {
+            self.substitute_row(x, i, 0, i, i * N, 1);
+        }
+    }
+
+    // Back substitution: Lᵀ X = Y, `x` from Y to X.
+    fn back_in<const C: usize, const NC: usize>(&self, x: &mut Matrix<N, C, NC>)
+        requires { (NN ≡ N * N) × (NC ≡ N * C) }
+        ensures { x.new.data ≡ back N C self.now.lower.data x.old.data N }
+    {
+        for i in (0..N).rev() {
+            self.substitute_row(x, i, i + 1, N, i, N);
+        }
+    }
+
+    // Row i of a substitution: less the products of the rows `from` to `to` of `x` with their factors, and divided by the pivot. The factor of
+    // row k stands in the lower factor at k * stride + start. By index: row i of `x` is changed while rows k of it are read.
+    // Four numbers say which rows and which factors: what they must meet, that each factor lies in the matrix, a range and a closure would have to meet too.
+    fn substitute_row<const C: usize, const NC: usize>(
+        &self,
+        x: &mut Matrix<N, C, NC>,
+        i: usize,
+        from: usize,
+        to: usize,
+        start: usize,
+        stride: usize,
+    )
+        requires { (NN ≡ N * N) × (NC ≡ N * C) × (i < N) × (from ≤ to) × (to ≤ N) × ((k : ℕ) → from ≤ k → k < to → (k ≢ i) × (k * stride + start < N * N)) }
+        ensures { x.new.data ≡ substituted N C self.now.lower.data i (λ k. get_or self.now.lower.data (k * stride + start) nan) from (to - from) x.old.data }
+    {
+        // As a slice: a proof knows its length.
+        let x = &mut x.data[..];
+        for j in 0..C {
+            let mut sum = x[i * C + j];
+            for k in from..to {
+                sum = sum - self.lower.data[k * stride + start] * x[k * C + j];
+            }
+            x[i * C + j] = sum / self.lower.data[i * N + i];
+        }
     }
 }

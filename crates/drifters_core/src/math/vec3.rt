@@ -1,5 +1,8 @@
 // Port of math/vec3.rs: three-element column vectors, by value. The operators are named functions, as document 01 wants them (docs/DECISIONS.md), and
 // `from_array` and `to_array` have the original's names.
+// The definitions that a proof opens.
+#![tactic(auto, unfolding(crate::specs::Vec3::dot, crate::specs::Vec3::cross, crate::specs::Vec3::norm, crate::specs::Vec3::norm_squared, crate::specs::Vec3::normalized, crate::specs::Vec3::component_mul, crate::specs::Vec3::component_div, crate::specs::Vec3::squared, crate::specs::Vec3::skew, crate::specs::Vec3::to_diag, crate::specs::Vec3::finite_vec3, crate::specs::Vec3::amax_vec3, crate::specs::Vec3::add_vec3, crate::specs::Vec3::sub_vec3, crate::specs::Vec3::neg_vec3, crate::specs::Vec3::mul_vec3, crate::specs::Vec3::div_vec3, crate::specs::Vec3::mul_mat3_vec3))]
+
 ghost use Rattle.std.specs.Prelude.{◌≡◌};
 ghost use Rattle.drifters_core.specs.Vec3.{vec3, splat, from_array, to_array, dot, cross, norm, norm_squared, normalized, component_mul, component_div, squared, skew, to_diag, finite_vec3, amax_vec3, add_vec3, sub_vec3, neg_vec3, mul_vec3, div_vec3, mul_mat3_vec3};
 

@@ -3,13 +3,14 @@
 use mathlib.Core.Path.{◌≡◌, refl, sym, ap, ◌∙◌}
 use mathlib.Core.Bool.{Bool, true, false, not, cond, true≢false}
 use mathlib.Core.List.{List, [], ◌∷◌}
-use Prim.Native.Nat.{ℕ, suc, ◌+◌, ◌*◌}
+use Prim.Native.Nat.{ℕ, suc, ◌+◌, ◌*◌, ◌<◌}
 use native.Mathlib.Omega.{arith}
+use lib.Dec.{lit<}
 use lib.Ieee.{Float}
 use Rattle.drifters_matrix.specs.Matrix.{all_finite}
 use Rattle.drifters_matrix.proofs.Matrix.Grid.{at_in}
 use Rattle.drifters_matrix.proofs.Matrix.Theorems.{mirrored}
-use Rattle.drifters_eqf.specs.Answer.{Answer, Nis, Fine, Refused, length_refusal, blank_refusal, turn_refusal, pivot_refusal, range_refusal, null_refusal, number_of}
+use Rattle.drifters_eqf.specs.Answer.{Answer, Nis, Fine, Refused, length_refusal, blank_refusal, null_refusal, number_of}
 use Rattle.drifters_entry.specs.Layout.{from_run, to_run, SizedFilter}
 use Rattle.drifters_entry.specs.Entry.{Request, refusal, propagation, measurement, estimate, request_of, call}
 use Rattle.drifters_demands.specs.Demands.{Check, first_of, has_null, later_checks, checks, FiniteMirrored, NullCall, accepted_outcome, Demand1}
@@ -43,35 +44,26 @@ finite estimate f run written h q e = absurd (h refl)
 
 -- ---- refused as null
 
-not_turn : turn_refusal ≡ null_refusal → ⊥
-not_turn e = omega (arith, e)
+-- each check of a list has a smaller number
+abbrev SmallerNumbers : List Check → Type 0
+SmallerNumbers [] = Unit
+SmallerNumbers (c ∷ cs) = (c.number < null_refusal) × SmallerNumbers cs
 
-not_pivot : pivot_refusal ≡ null_refusal → ⊥
-not_pivot e = omega (arith, e)
-
-not_range : range_refusal ≡ null_refusal → ⊥
-not_range e = omega (arith, e)
-
--- no check of a list has that number
-abbrev OtherNumbers : List Check → Type 0
-OtherNumbers [] = Unit
-OtherNumbers (c ∷ cs) = (c.number ≡ null_refusal → ⊥) × OtherNumbers cs
-
-first_not_null : (cs : List Check) → OtherNumbers cs → first_of cs ≡ null_refusal → ⊥
+first_not_null : (cs : List Check) → SmallerNumbers cs → first_of cs ≡ null_refusal → ⊥
 unfolding first_of
 first_not_null [] h e = omega (arith, e)
 first_not_null (c ∷ cs) h e = go c.refuses (first_not_null cs h.1) e
   where
     go : (b : Bool) → (first_of cs ≡ null_refusal → ⊥) → cond b c.number (first_of cs) ≡ null_refusal → ⊥
-    go true rest e = h.0 e
+    go true rest e = omega (arith, h.0, e)
     go false rest e = rest e
 
--- none of the later checks has it
-later_not_null : (r : Request) (f : EqFilter) → OtherNumbers (later_checks r f)
-later_not_null (refusal n) f = tt
-later_not_null (propagation u dt q) f = (not_turn, (not_turn, (not_range, tt)))
-later_not_null (measurement w m noise alpha) f = (not_pivot, (not_pivot, (not_turn, (not_range, tt))))
-later_not_null estimate f = (not_range, tt)
+-- each of the later checks has
+later_smaller : (r : Request) (f : EqFilter) → SmallerNumbers (later_checks r f)
+later_smaller (refusal n) f = tt
+later_smaller (propagation u dt q) f = (lit< tt, (lit< tt, (lit< tt, tt)))
+later_smaller (measurement w m noise alpha) f = (lit< tt, (lit< tt, (lit< tt, (lit< tt, tt))))
+later_smaller estimate f = (lit< tt, tt)
 
 -- the first check that refuses is that one
 null_first : (lengths finite null : Bool) (later : ℕ) → (later ≡ null_refusal → ⊥)
@@ -96,7 +88,7 @@ module _ (kind : Kind) (run v written : List Float) where
   null_call e =
       let later = later_checks (request_of kind (from_run run) v) (from_run run) in
       let tests = null_first _ _ (has_null kind v) (first_of later)
-      (first_not_null later (later_not_null (request_of kind (from_run run) v) (from_run run))) (sym number ∙ ap number_of e) in
+      (first_not_null later (later_smaller (request_of kind (from_run run) v) (from_run run))) (sym number ∙ ap number_of e) in
       record { lengths = tests.0; finite = tests.1; null = tests.2 }
 
   null_refused : NullCall kind run v written → (call kind run v written).answer ≡ Refused null_refusal

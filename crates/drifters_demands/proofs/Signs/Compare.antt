@@ -1,10 +1,11 @@
 -- Comparisons under `Like`: both zeros count as one, so they take no notice of which stands there. Assumes nothing.
 use mathlib.Core.Path.{◌≡◌, refl, sym, ap, ap₂, ◌∙◌}
-use Prim.Native.Nat.{ℕ, zero, suc, ◌*◌, ◌<◌}
-use native.Mathlib.Nat.{zero-mul, mul-pos, zero-lt-suc, zero-add, add-zero, lt_irrefl}
-use mathlib.Core.Bool.{Bool, true, false, not, ◌&&◌, ◌||◌, beq, true≢false, or-true, and-true}
+use Prim.Native.Nat.{ℕ, zero, suc, ◌*◌}
+use native.Mathlib.Nat.{zero-mul, mul-pos, zero-lt-suc, zero-add, add-zero, ne_of_lt}
+use mathlib.Core.Bool.{Bool, true, false, not, ◌&&◌, ◌||◌, beq, or-true, and-true}
 use lib.IntN.{ℤ, pos}
-use lib.Dec.{T, ltb, eqb, lt→ltb, leb-suc-suc, leb-zero, leb-suc-zero, eqb-suc-zero, eqb-zero-suc, eqb-suc-suc, eqb→eq}
+use borrow.Author.Tests.{both_ways, lt-ltb, ne_eqb}
+use lib.Dec.{T, ltb, eqb, leb-suc-zero, eqb-suc-zero, eqb-zero-suc, eqb-suc-suc, eqb→eq}
 use lib.Ieee.{Float, nan, inf, fin, up, down, neg, lt, le, eq, below, level, of_bits}
 use lib.Ieee.Fits.{up_pos, down_pos}
 use Rattle.drifters_real.specs.Scalar.{plus_zero}
@@ -13,13 +14,9 @@ use Rattle.drifters_real.proofs.Real.Zeros.{plus_zero_is}
 use Rattle.drifters_demands.proofs.Signs.Like.{fin_zero, is_zero, respects₂, zero_alike, like_refl, like_plus_zero, like_exact}
 
 -- ---- m * up e * down d is above zero where m is
-of_T : (b : Bool) → T b → b ≡ true
-of_T true t = refl
-of_T false t = absurd t
-
 above : (m : ℕ) (e d : ℤ) → ltb 0 (m * up e * down d) ≡ ltb 0 m
 above zero e d = rw (zero-mul, zero-mul)
-above (suc m) e d = of_T _ (lt→ltb 0 (suc m * up e * down d) (mul-pos (mul-pos (zero-lt-suc m) (up_pos e)) (down_pos d))) ∙ sym (leb-suc-suc 0 m ∙ leb-zero m)
+above (suc m) e d = lt-ltb 0 _ (mul-pos (mul-pos (zero-lt-suc m) (up_pos e)) (down_pos d)) ∙ sym (lt-ltb 0 (suc m) (zero-lt-suc m))
 
 -- ---- less than
 lt_fin : (s : Bool) (m : ℕ) (e : ℤ) (t : Bool) (n : ℕ) (d : ℤ) → lt (fin s m e) (fin t n d) ≡ below s (m * up e * down d) t (n * up d * down e)
@@ -55,13 +52,9 @@ eq_fin : (s : Bool) (m : ℕ) (e : ℤ) (t : Bool) (n : ℕ) (d : ℤ) → eq (f
 unfolding eq
 eq_fin s m e t n d = refl
 
-not_zero : (n : ℕ) → 0 < n → eqb 0 n ≡ false
-not_zero zero h = absurd (lt_irrefl 0 h)
-not_zero (suc n) h = eqb-zero-suc n
-
 eqb_zero : (m : ℕ) (e d : ℤ) → eqb 0 (m * up e * down d) ≡ eqb 0 m
 eqb_zero zero e d = rw (zero-mul, zero-mul)
-eqb_zero (suc m) e d = not_zero (suc m * up e * down d) (mul-pos (mul-pos (zero-lt-suc m) (up_pos e)) (down_pos d)) ∙ sym (eqb-zero-suc m)
+eqb_zero (suc m) e d = ne_eqb 0 _ (ne_of_lt (mul-pos (mul-pos (zero-lt-suc m) (up_pos e)) (down_pos d))) ∙ sym (eqb-zero-suc m)
 
 eq_zero_fin_l : (s t : Bool) (e d : ℤ) (n : ℕ) → eq (fin s 0 e) (fin t n d) ≡ eqb 0 n
 eq_zero_fin_l s t e d n = rw (eq_fin, zero-mul, zero-mul, or-true, and-true, eqb_zero)
@@ -145,9 +138,6 @@ pub like_eq_zero : {s : Bool} {x y : Float} → Like s x y → eq x plus_zero �
 like_eq_zero h = like_eq h like_plus_zero
 
 -- ---- two that are alike, where a comparison shows that they are no zeros
-not_both : {b : Bool} → b ≡ true → b ≡ false → ⊥
-not_both p q = true≢false (sym p ∙ q)
-
 zero_not_above : lt plus_zero plus_zero ≡ false
 unfolding lt of_bits
 zero_not_above = refl
@@ -157,11 +147,11 @@ unfolding le lt eq of_bits
 zero_le_zero = refl
 
 pub like_above : {x y : Float} → Like false x y → lt plus_zero x ≡ true → x ≡ y
-like_above h p = like_exact h (λ z. not_both p (like_lt like_refl z ∙ zero_not_above))
+like_above h p = like_exact h (λ z. both_ways _ (like_lt like_refl z ∙ zero_not_above) p)
 
 pub like_not_le_zero : {x y : Float} → Like false x y → le x plus_zero ≡ false → x ≡ y
-like_not_le_zero h p = like_exact h (λ z. not_both (like_le z like_refl ∙ zero_le_zero) p)
+like_not_le_zero h p = like_exact h (λ z. both_ways _ p (like_le z like_refl ∙ zero_le_zero))
 
 -- below no bound that is above 0
 pub like_not_lt : {x y : Float} (b : Float) → lt plus_zero b ≡ true → Like false x y → lt x b ≡ false → x ≡ y
-like_not_lt b q h p = like_exact h (λ z. not_both (like_lt z like_refl ∙ q) p)
+like_not_lt b q h p = like_exact h (λ z. both_ways _ p (like_lt z like_refl ∙ q))

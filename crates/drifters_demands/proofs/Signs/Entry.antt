@@ -2,7 +2,7 @@
 use Prim.Native.Nat.{ℕ, ◌+◌, ◌*◌, ◌<◌}
 use native.Mathlib.Omega.{arith}
 use mathlib.Core.Path.{◌≡◌, refl, sym, ap, ap₂, ◌∙◌, subst, subst₂}
-use mathlib.Core.Bool.{Bool, true, false, ◌&&◌, and-eq-true_iff}
+use mathlib.Core.Bool.{Bool, true, false, ◌&&◌, and-eq-true_iff, not-not}
 use mathlib.Core.List.{List}
 use borrow.Author.Tests.{eqb-true}
 use lib.Dec.{eqb, lit<}
@@ -13,7 +13,6 @@ use Rattle.std.specs.Prelude.{Option}
 use Rattle.drifters_real.specs.Scalar.{plus_zero}
 use Rattle.drifters_matrix.specs.Matrix.{all_finite, zeros}
 use Rattle.drifters_demands.specs.Like.{Like, Signs, axis, LikeList, LikeVec3, LikeMatrix, no_turn}
-use Rattle.drifters_demands.proofs.Signs.Sign.{not-not}
 use Rattle.drifters_demands.proofs.Signs.Like.{like_as, like_plus_zero, cond_keeps}
 use Rattle.drifters_demands.proofs.Signs.Real.{like_is_finite}
 use Rattle.drifters_demands.proofs.Signs.Matrix.{like_all_finite_list}

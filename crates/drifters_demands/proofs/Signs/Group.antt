@@ -9,7 +9,7 @@ use lib.ListN.{get_or, get_or-replicate}
 use lib.Seq.{get_or-set_other}
 use lib.Ieee.{Float, nan, unlike}
 use Rattle.drifters_real.specs.Scalar.{plus_zero, one}
-use Rattle.drifters_matrix.specs.Matrix.{zeros}
+use Rattle.drifters_matrix.specs.Matrix.{zeros, unit}
 use Rattle.drifters_core.specs.Vec3.{cross}
 use Rattle.drifters_demands.specs.Like.{Like, Signs, axis, LikeList, LikeVec3, LikeMatrix}
 use Rattle.drifters_core.specs.declared.math.vec3.Vec3.{Vec3}
@@ -20,7 +20,7 @@ use Rattle.drifters_demands.proofs.Signs.Matrix.{like_matrix, like_column, like_
 use Rattle.drifters_demands.proofs.Signs.Vec3.{like_zero_vec3, like_to_array, like_add_vec3, like_sub_vec3, like_neg_vec3, like_mul_vec3, like_cross}
 use Rattle.drifters_demands.proofs.Signs.Quat.{like_from_rotation_vector, like_to_dcm}
 use Rattle.drifters_lie.specs.Lie.{bracket_se3, add_se3}
-use Rattle.drifters_symmetry.specs.Group.{compose, inverse, to_array21, scaled_algebra, from_array21, bracket, unit, ad, exp, adjoint_apply, default_state, act_state, act_direction, act_position, act_velocity}
+use Rattle.drifters_symmetry.specs.Group.{compose, inverse, to_array21, scaled_algebra, from_array21, bracket, ad, exp, adjoint_apply, default_state, act_state, act_direction, act_position, act_velocity}
 use Rattle.drifters_symmetry.specs.declared.group.Symmetry.{Symmetry}
 use Rattle.drifters_symmetry.specs.declared.group.Algebra.{Algebra}
 use Rattle.drifters_symmetry.specs.declared.group.State.{State}

@@ -24,8 +24,8 @@ use Rattle.drifters_demands.proofs.Signs.Matrix.{like_zeros, like_matrix_as, lik
 use Rattle.drifters_demands.proofs.Signs.Vec3.{like_zero_vec3, like_to_array, like_add_vec3, like_sub_vec3, like_neg_vec3, like_mul_vec3, like_cross, like_norm_squared, like_skew, like_amax_vec3}
 use Rattle.drifters_demands.proofs.Signs.Quat.{like_from_rotation_vector, like_to_dcm}
 use Rattle.drifters_demands.proofs.Signs.Numeral.{scaled_of, add_matrix_of}
-use Rattle.drifters_lie.specs.Lie.{zero_se3_tangent, scaled_se23, pi, to_array_se3, vec3_at, from_array_se3, bracket_se3, blocks6, ad_se3, add_se3, sub_se3, neg_se3, add_se23, small_angle_sq, jacobian_a, jacobian_b, left_jacobian, identity_se23, compose_se23, inverse_se23, adjoint_apply_se23, chi, exp_se23, inverse_se3, adjoint_se3, adjoint_apply_se3, exp_se3}
-use Rattle.drifters_adjoint.specs.Adjoint.{sixteenth, halvings, halved, series_term, series, doubled, most_halvings, integrated_adjoint, scaled_se3}
+use Rattle.drifters_lie.specs.Lie.{zero_se3_tangent, scaled_se23, pi, to_array_se3, vec3_at, from_array_se3, scaled_se3, bracket_se3, blocks6, ad_se3, add_se3, sub_se3, neg_se3, add_se23, small_angle_sq, jacobian_a, jacobian_b, left_jacobian, identity_se23, compose_se23, inverse_se23, adjoint_apply_se23, chi, exp_se23, inverse_se3, adjoint_se3, adjoint_apply_se3, exp_se3}
+use Rattle.drifters_adjoint.specs.Adjoint.{sixteenth, halvings, halved, series_term, series, doubled, most_halvings, integrated_adjoint}
 use Rattle.drifters_lie.specs.declared.lie.Se23Tangent.{Se23Tangent}
 use Rattle.drifters_lie.specs.declared.lie.Se3Tangent.{Se3Tangent}
 use Rattle.drifters_lie.specs.declared.lie.Se23.{Se23}

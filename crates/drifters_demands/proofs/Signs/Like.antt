@@ -1,13 +1,12 @@
 -- `Like s x y`: what a function gives for two that are alike, and the first laws. Assumes nothing.
 use mathlib.Core.Path.{◌≡◌, refl, sym, ap, ◌∙◌, subst}
 use Prim.Native.Nat.{ℕ, zero, suc}
-use mathlib.Core.Bool.{Bool, true, false, cond, true≢false}
+use mathlib.Core.Bool.{Bool, true, false, cond, not-not, true≢false}
 use lib.IntN.{ℤ, pos}
 use lib.Ieee.{Float, nan, inf, fin, neg, is_nan}
 use Rattle.drifters_real.specs.Scalar.{plus_zero}
 use Rattle.drifters_real.proofs.Real.Zeros.{plus_zero_is}
 use Rattle.drifters_demands.specs.Like.{unsigned_zero, signed, Like}
-use Rattle.drifters_demands.proofs.Signs.Sign.{not-not}
 
 -- +0, of which `plus_zero` is the bits
 abbrev pub fin_zero : Float

@@ -5,7 +5,7 @@ use mathlib.Core.Logic.{⊎_elim}
 use Prim.Native.Nat.{ℕ, zero, suc, ◌+◌, ◌-◌, ◌*◌, ◌/◌, ◌%◌, ◌≤◌, ◌<◌}
 use native.Mathlib.Nat.{zero-lt-suc, not-suc-le-zero, le_refl, le_step, eq-zero-or-pos, mul-zero, div-lt_iff_lt-mul, mod-lt, div-add-mod'}
 use native.Mathlib.Omega.{arith}
-use mathlib.Core.Bool.{Bool, true, false, ◌&&◌, true≢false}
+use mathlib.Core.Bool.{Bool, true, false, ◌&&◌, and-eq-true_iff}
 use borrow.Author.Tests.{leb-true, ltb-true, eqb-true}
 use lib.Dec.{eqb, leb, ltb, lit<}
 use lib.ListN.{length, get_or, replicate, get_or-replicate}
@@ -122,22 +122,12 @@ like_mul_transpose {c} h k =
     (λ i j I J. like_sum_terms false _ _ _ _ c (λ l L. like_eq_zero (h.entry i l I L)) (λ l L. like_mul_as (h.entry i l I L) (k.entry j l J L) (simp signs)))
 
 -- ---- blocks
-and_true_l : (p q : Bool) → (p && q) ≡ true → p ≡ true
-and_true_l true q e = refl
-and_true_l false q e = e
-
-and_true_r : (p q : Bool) → (p && q) ≡ true → q ≡ true
-and_true_r true q e = e
-and_true_r false q e = absurd (true≢false (sym e))
-
--- a place within a block, and one within it counted from its corner
-before : (n b o i : ℕ) → leb (o + b) n ≡ true → i < b → o + i < n
-before n b o i e h = omega (arith, leb-true (o + b) n e)
-
+-- a place within a block, counted from its corner
 within : (b o i : ℕ) → (leb o i && ltb i (o + b)) ≡ true → (i - o < b) × (o + (i - o) ≡ i)
 within b o i e =
-    let p : o ≤ i = leb-true o i (and_true_l (leb o i) (ltb i (o + b)) e) in
-    let q : i < o + b = ltb-true i (o + b) (and_true_r (leb o i) (ltb i (o + b)) e) in
+    let both = (and-eq-true_iff (leb o i) (ltb i (o + b))).0 e in
+    let p : o ≤ i = leb-true o i both.0 in
+    let q : i < o + b = ltb-true i (o + b) both.1 in
     (omega arith, omega arith)
 
 pub like_set_block : {σ τ : ℕ → Bool} {r c : ℕ} {a a' b b' : List Float} {br bc : ℕ} (r0 c0 : ℕ) → LikeMatrix σ τ r c a a'
@@ -150,21 +140,19 @@ like_set_block {σ} {τ} {r} {c} {br} {bc} r0 c0 h k =
     (λ i j I J.
     cond_keeps_same (Like _) (in_block br bc r0 c0 i j)
     (λ e.
-    let p = within br r0 i (and_true_l (leb r0 i && ltb i (r0 + br)) (leb c0 j && ltb j (c0 + bc)) e) in
-    let q = within bc c0 j (and_true_r (leb r0 i && ltb i (r0 + br)) (leb c0 j && ltb j (c0 + bc)) e) in
+    let both = (and-eq-true_iff (leb r0 i && ltb i (r0 + br)) (leb c0 j && ltb j (c0 + bc))).0 e in
+    let p = within br r0 i both.0 in
+    let q = within bc c0 j both.1 in
     like_as (ap₂ (λ m n. unlike (σ m) (τ n)) p.1 q.1) (k.entry (i - r0) (j - c0) p.0 q.0))
     (λ e. h.entry i j I J)))
     (λ f. h)
 
 -- ---- tests and sizes of all entries
-not_zero_suc : {n : ℕ} → 0 ≡ suc n → ⊥
-not_zero_suc e = omega arith
-
 same_finite : (a b : List Float) → length a ≡ length b → ((k : ℕ) → k < length a → is_finite (get_or a k nan) ≡ is_finite (get_or b k nan)) → all_finite a ≡ all_finite b
 unfolding all_finite
 same_finite [] [] e h = refl
-same_finite [] (y ∷ b) e h = absurd (not_zero_suc e)
-same_finite (x ∷ a) [] e h = absurd (not_zero_suc (sym e))
+same_finite [] (y ∷ b) e h = absurd (omega (arith, e))
+same_finite (x ∷ a) [] e h = absurd (omega (arith, e))
 same_finite (x ∷ a) (y ∷ b) e h = ap₂ ◌&&◌ (h 0 (zero-lt-suc (length a))) (same_finite a b (omega (arith, e)) (λ k K. h (suc k) (omega arith)))
 
 pub like_all_finite_list : {σ : ℕ → Bool} {n : ℕ} {a a' : List Float} → LikeList σ n a a' → length a ≡ n → length a' ≡ n → all_finite a ≡ all_finite a'

@@ -1,14 +1,14 @@
 -- The operations keep `Like`. Assumes nothing.
 use mathlib.Core.Path.{◌≡◌, refl, ap, ◌∙◌}
 use Prim.Native.Nat.{ℕ, zero, suc, ◌*◌}
-use native.Mathlib.Nat.{zero-mul, mul-zero, mul-pos, mul_comm, mul_assoc, mul_left_comm, zero-lt-suc}
+use native.Mathlib.Nat.{zero-mul, mul-pos, mul_comm, mul_assoc, mul_left_comm, zero-lt-suc}
 use mathlib.Core.Bool.{Bool, true, false, not, beq, cond}
 use lib.IntN.{ℤ}
 use lib.Dec.{eqb, eqb-suc-zero}
 use lib.Ieee.{Float, nan, inf, fin, Format, binary64, up, down, unlike, round, neg, add, sub, mul, div}
 use lib.Ieee.Fits.{up_pos, down_pos}
 use lib.Ieee.Scale.{round_same}
-use Rattle.drifters_real.proofs.Real.Zeros.{add_fin, mul_fin, down_down}
+use Rattle.drifters_real.proofs.Real.Zeros.{add_fin, mul_fin, mul_comm_float, down_down}
 use Rattle.drifters_real.specs.Scalar.{◌⊕◌, ◌⊖◌, ◌⊗◌, ◌⊘◌}
 use Rattle.drifters_demands.specs.Like.{unsigned_zero, signed, Like}
 use Rattle.drifters_demands.proofs.Signs.Like.{fin_zero, respects, respects₂, zero_alike, neg_neg, like_as, like_neg}
@@ -78,32 +78,23 @@ neg_mul_l f (fin s m e) nan = unfold mul neg in refl
 neg_mul_l f (fin s m e) (inf t) = unfold mul neg in simp (neg_cond, not_unlike)
 neg_mul_l f (fin s m e) (fin t n d) = unfold neg in simp (mul_fin, neg_round, not_unlike)
 
-neg_mul_r : (f : Format) (x y : Float) → mul f x (neg y) ≡ neg (mul f x y)
-neg_mul_r f nan y = unfold mul neg in refl
-neg_mul_r f (inf s) nan = unfold mul neg in refl
-neg_mul_r f (inf s) (inf t) = unfold mul neg in simp unlike_not
-neg_mul_r f (inf s) (fin t n d) = unfold mul neg in simp (neg_cond, unlike_not)
-neg_mul_r f (fin s m e) nan = unfold mul neg in refl
-neg_mul_r f (fin s m e) (inf t) = unfold mul neg in simp (neg_cond, unlike_not)
-neg_mul_r f (fin s m e) (fin t n d) = unfold neg in simp (mul_fin, neg_round, unlike_not)
+neg_mul_r : (x y : Float) → x ⊗ neg y ≡ neg (x ⊗ y)
+neg_mul_r x y = mul_comm_float x (neg y) ∙ neg_mul_l binary64 y x ∙ ap neg (mul_comm_float y x)
 
 mul_zero_fin_l : (f : Format) (s t : Bool) (e d : ℤ) (n : ℕ) → unsigned_zero (mul f (fin s 0 e) (fin t n d)) ≡ fin_zero
 mul_zero_fin_l f s t e d n = rw (mul_fin, zero-mul, zero-mul) (round_zero f (unlike s t) (down e * down d) (down_down e d))
 
-mul_zero_fin_r : (f : Format) (t s : Bool) (d e : ℤ) (m : ℕ) → unsigned_zero (mul f (fin s m e) (fin t 0 d)) ≡ fin_zero
-mul_zero_fin_r f t s d e m = rw (mul_fin, zero-mul, mul-zero) (round_zero f (unlike s t) (down e * down d) (down_down e d))
-
 mul_zero_l : (f : Format) (y : Float) (s : Bool) (e : ℤ) → unsigned_zero (mul f (fin s 0 e) y) ≡ unsigned_zero (mul f fin_zero y)
 mul_zero_l f = zero_alike (λ x y. unsigned_zero (mul f x y)) (λ s e. unfold mul in refl) (λ s t e. unfold mul in refl) (mul_zero_fin_l f)
 
-mul_zero_r : (f : Format) (x : Float) (t : Bool) (d : ℤ) → unsigned_zero (mul f x (fin t 0 d)) ≡ unsigned_zero (mul f x fin_zero)
-mul_zero_r f = zero_alike (λ y x. unsigned_zero (mul f x y)) (λ s e. unfold mul in refl) (λ s t e. unfold mul in refl) (mul_zero_fin_r f)
+mul_zero_r : (x : Float) (t : Bool) (d : ℤ) → unsigned_zero (x ⊗ fin t 0 d) ≡ unsigned_zero (x ⊗ fin_zero)
+mul_zero_r x t d = ap unsigned_zero (mul_comm_float x (fin t 0 d)) ∙ mul_zero_l binary64 x t d ∙ ap unsigned_zero (mul_comm_float fin_zero x)
 
 pub like_mul : {s t : Bool} {x x' y y' : Float} → Like s x x' → Like t y y' → Like (unlike s t) (x ⊗ y) (x' ⊗ y')
 like_mul {s} {t} {x} {x'} {y} {y'} h k = record {
   same =
-      respects₂ (λ x y. unsigned_zero (x ⊗ y)) (mul_zero_l binary64) (mul_zero_r binary64) x (signed s x') y (signed t y') h.same k.same
-      ∙ ap unsigned_zero (op_signed (mul binary64) (neg_mul_l binary64) (neg_mul_r binary64) s t x' y');
+      respects₂ (λ x y. unsigned_zero (x ⊗ y)) (mul_zero_l binary64) mul_zero_r x (signed s x') y (signed t y') h.same k.same
+      ∙ ap unsigned_zero (op_signed (mul binary64) (neg_mul_l binary64) neg_mul_r s t x' y');
 }
 
 -- the sign of the product as it is written elsewhere

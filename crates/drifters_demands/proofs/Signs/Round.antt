@@ -3,8 +3,9 @@ use mathlib.Core.Path.{◌≡◌, refl, sym, ◌∙◌}
 use Prim.Native.Nat.{ℕ, zero, suc, ◌+◌, ◌-◌, ◌<◌, ◌≤◌}
 use native.Mathlib.Nat.{zero-mul, zero-lt-suc, zero-add, add-zero, sub-zero}
 use native.Mathlib.Omega.{arith}
+use borrow.Author.Tests.{lt-ltb}
 use mathlib.Core.Bool.{Bool, true, false, not, cond}
-use lib.Dec.{T, ltb, nltb→le, leb-suc-suc, leb-zero, leb-suc-zero}
+use lib.Dec.{T, ltb, nltb→le, leb-suc-zero}
 use lib.Ieee.{Float, Format, binary32, binary64, odd, round, sum, neg}
 use lib.Ieee.Scale.{round_same}
 use Rattle.drifters_demands.specs.Like.{unsigned_zero}
@@ -64,12 +65,9 @@ neg_sum f true false a b c C = cc (sum_opposite f false a b c C, signed_same tru
 neg_sum f false true a b c C = cc (sum_opposite f true a b c C, signed_same true (sum f false a true b c) (opposite f false a b c) (sum_opposite f false a b c C), neg_opposite f false a b c)
 
 -- ---- with a zero on one side
-ltb_suc : (n : ℕ) → ltb 0 (suc n) ≡ true
-ltb_suc n = leb-suc-suc 0 n ∙ leb-zero n
-
 opposite_zero_l : (f : Format) (s : Bool) (b c : ℕ) → 0 < c → unsigned_zero (opposite f s 0 b c) ≡ unsigned_zero (round f (not s) b c)
 opposite_zero_l f s zero c C = round_zero f s c C ∙ sym (round_zero f (not s) c C)
-opposite_zero_l f s (suc b) c C = rw (ltb_suc b, sub-zero)
+opposite_zero_l f s (suc b) c C = rw (lt-ltb 0 (suc b) (zero-lt-suc b), sub-zero)
 
 opposite_zero_r : (f : Format) (s : Bool) (a c : ℕ) → unsigned_zero (opposite f s a 0 c) ≡ unsigned_zero (round f s a c)
 opposite_zero_r f s a c = simp (leb-suc-zero, sub-zero)

@@ -7,10 +7,6 @@ use native.Mathlib.Omega.{arith}
 use lib.Ieee.{unlike}
 use Rattle.drifters_demands.specs.Like.{Signs, axis}
 
-pub not-not : (s : Bool) → not (not s) ≡ s
-not-not true = refl
-not-not false = refl
-
 pub unlike_same : (s : Bool) → unlike s s ≡ false
 unlike_same true = refl
 unlike_same false = refl

@@ -1,7 +1,7 @@
 -- A matrix of which a loop sets one column after the other, each a block of one column. Assumes nothing.
 use mathlib.Core.Path.{◌≡◌, sym, ap, ◌∙◌}
 use mathlib.Core.Bool.{true, cond}
-use mathlib.Core.List.{List}
+use mathlib.Core.List.{List, []}
 use mathlib.Core.Logic.{⊎_elim}
 use Prim.Native.Nat.{ℕ, ◌+◌, ◌-◌, ◌*◌, ◌≤◌, ◌<◌}
 use native.Mathlib.Nat.{eq-or-lt_of_le}
@@ -11,7 +11,8 @@ use lib.Dec.{ltb}
 use lib.ListN.{get_or, length-replicate, get_or-replicate}
 use lib.Ieee.{Float, nan}
 use Rattle.drifters_real.specs.Scalar.{plus_zero}
-use Rattle.drifters_matrix.specs.Matrix.{at, matrix, zeros, in_block, set_block}
+use Rattle.drifters_matrix.specs.Matrix.{tab, at, matrix, zeros, in_block, set_block, from_columns}
+use Rattle.drifters_matrix.proofs.Matrix.Tab.{get_d_tab}
 use Rattle.drifters_matrix.proofs.Matrix.Grid.{at_in, length_matrix, entry, lt_or_le, matrix_is}
 use Rattle.drifters_matrix.proofs.Matrix.Block.{fits, set_is}
 
@@ -56,3 +57,8 @@ next_column r c k cols l =
 -- after the last step
 pub all_columns : (r c : ℕ) (cols : ℕ → List Float) → first_columns r c c cols ≡ matrix r c (λ i j. get_or (cols j) i nan)
 all_columns r c cols = same_entries r c _ _ (λ i j h k. rw (lt-ltb j c k))
+
+-- the matrix of the columns f 0, f 1, .., f (c - 1)
+pub columns_are : (r c : ℕ) {columns : List (List Float)} (f : ℕ → List Float) → columns ≡ tab c f → from_columns r c columns ≡ matrix r c (λ i j. get_or (f j) i nan)
+unfolding from_columns
+columns_are r c f e = same_entries r c _ _ (λ i j h k. ap (λ l. get_or l i nan) (ap (λ m. get_or m j []) e ∙ get_d_tab c f j [] k))

@@ -1,23 +1,20 @@
 -- A matrix written column by column. Assumes nothing.
-use mathlib.Core.Path.{◌≡◌, ap, ◌∙◌, subst}
+use mathlib.Core.Path.{◌≡◌, ap, ◌∙◌}
 use mathlib.Core.List.{List}
 use Prim.Native.Nat.{ℕ, ◌+◌, ◌*◌, ◌/◌, ◌%◌, ◌<◌}
-use native.Mathlib.Nat.{add-zero, add_assoc, zero-mul, div-lt_iff_lt-mul, div-add-mod', lt_of_lt_of_le, le_trans}
+use native.Mathlib.Nat.{add-zero, add_assoc, div-lt_iff_lt-mul, div-add-mod', lt_of_lt_of_le, le_trans}
 use native.Mathlib.Omega.{arith}
-use borrow.Author.Count.{below_none, below_more}
+use borrow.Author.Count.{below_more}
 use lib.ListN.{length, set}
 use lib.Seq.{get_or-set_same, get_or-set_other}
 use lib.Ieee.{Float, nan}
 use Rattle.drifters_matrix.specs.Matrix.{at, matrix}
-use Rattle.drifters_matrix.proofs.Matrix.Grid.{at_in, row_in, row_next, div_at, mod_at, same_place, matrix_is}
+use Rattle.drifters_matrix.proofs.Matrix.Grid.{at_in, row_in, div_at, mod_at, same_place, matrix_is}
 
 -- What a loop that writes a matrix of r rows and c columns column by column keeps: the entries before (j, i), which stands in row j of
 -- column i, are those of f. Counted in that order, entry n is in row n % r of column n / r.
 pub record Columns (r c : ℕ) (f : ℕ → ℕ → Float) (i j : ℕ) (l : List Float) : Type 0 where
   pub filled : (n : ℕ) → n < i * r + j → at c l (n % r) (n / r) ≡ f (n % r) (n / r)
-
-pub columns_none : {r c : ℕ} {f : ℕ → ℕ → Float} {l : List Float} → Columns r c f 0 0 l
-columns_none {r} {c} {f} {l} = record { filled = rw (zero-mul, add-zero) (below_none (λ n. at c l (n % r) (n / r) ≡ f (n % r) (n / r))) }
 
 pub columns_set : {r c : ℕ} {f : ℕ → ℕ → Float} {i j : ℕ} {l : List Float} {v : Float} → Columns r c f i j l → i < c → j < r → j * c + i < length l → v ≡ f j i →
     Columns r c f i (j + 1) (set l (j * c + i) v)
@@ -35,10 +32,6 @@ columns_set {r} {c} {f} {i} {j} {l} {v} w h k s e =
   where
     positive : 0 < r
     positive = omega arith
-
-pub columns_next : {r c : ℕ} {f : ℕ → ℕ → Float} {i j : ℕ} {l : List Float} → Columns r c f i j l → j ≡ r → Columns r c f (i + 1) 0 l
-columns_next {r} {c} {f} {i} {j} {l} w e =
-    record { filled = rw (add-zero, row_next) (subst (λ (m : ℕ). (n : ℕ) → n < i * r + m → at c l (n % r) (n / r) ≡ f (n % r) (n / r)) e w.filled) }
 
 pub columns_done : {r c : ℕ} {f : ℕ → ℕ → Float} {i : ℕ} {l : List Float} → Columns r c f i 0 l → i ≡ c → length l ≡ r * c → l ≡ matrix r c f
 columns_done {r} {c} {f} {i} {l} w e s =

@@ -1,5 +1,5 @@
 -- What the loops of `symmetrize_in` keep. The pairs (p, q) with p < q are gone through in the order of their places p * n + q. Assumes nothing.
-use mathlib.Core.Path.{◌≡◌, refl, ◌∙◌}
+use mathlib.Core.Path.{◌≡◌, ◌∙◌}
 use mathlib.Core.List.{List}
 use mathlib.Core.Logic.{⊎_elim, ◌≢◌}
 use Prim.Native.Nat.{ℕ, ◌+◌, ◌*◌, ◌≤◌, ◌<◌}
@@ -18,13 +18,6 @@ pub record Symmetrized (n : ℕ) (o : List Float) (t : ℕ) (l : List Float) : T
   pub done : (p q : ℕ) → p < q → q < n → p * n + q < t → (at n l p q ≡ mean n o p q) × (at n l q p ≡ mean n o p q)
   pub left : (p q : ℕ) → p < q → q < n → t ≤ p * n + q → (at n l p q ≡ at n o p q) × (at n l q p ≡ at n o q p)
   pub diag : (p : ℕ) → p < n → at n l p p ≡ at n o p p
-
-pub symmetrized_none : (n : ℕ) (o : List Float) → Symmetrized n o (0 * n + (0 + 1)) o
-symmetrized_none n o = record {
-  done = λ p q h k s. absurd (omega (arith, h, s));
-  left = λ p q h k s. (refl, refl);
-  diag = λ p h. refl;
-}
 
 -- one pair is replaced
 module _ (n : ℕ) (o l : List Float) (i j : ℕ) (v : Float) (size : length l ≡ n * n) (H : Symmetrized n o (i * n + j) l) (h : i < j) (k : j < n) (e : v ≡ half ⊗ (at n l i j ⊕ at n l j i)) where

@@ -5,10 +5,11 @@ use Prim.Native.Nat.{ℕ, ◌+◌, ◌-◌, ◌*◌, ◌≤◌, ◌<◌}
 use native.Mathlib.Nat.{zero-mul}
 use native.Mathlib.Omega.{arith}
 use borrow.Rule.Slice.PartMut.{put_mid}
-use lib.Ieee.{Float}
-use lib.ListN.{length, take, drop, length-take, length-drop}
+use lib.Seq.{get_or-take, get_or-drop}
+use lib.Ieee.{Float, nan}
+use lib.ListN.{length, get_or, take, drop, length-take, length-drop}
 use Rattle.drifters_matrix.specs.Matrix.{tab}
-use Rattle.drifters_matrix.proofs.Matrix.Tab.{tab_ext, front, front_part}
+use Rattle.drifters_matrix.proofs.Matrix.Tab.{tab_is, tab_ext, front, front_part}
 use Rattle.drifters_matrix.proofs.Matrix.Grid.{row_in, row_next, by_row, div_at, mod_at}
 
 -- s, the carried start of row i of rows of c entries, is row number times row length; rows are counted from 0
@@ -28,7 +29,7 @@ pub row_start_in : {i c s r : ℕ} → RowStart i c s → i < r → s + c ≤ r 
 row_start_in {i} {c} {s} {r} h k = omega (arith, h.start, row_in i r c k)
 
 -- the part that is the row at p
-part_size : (p c : ℕ) → p + c - p ≡ c
+pub part_size : (p c : ℕ) → p + c - p ≡ c
 part_size p c = omega arith
 
 -- a step of a loop over the rows that has lent row i of l, which starts at p, and got y back
@@ -38,6 +39,8 @@ row_step f {i} c {p} o {l} {y} h e q =
     rw (part_size p c, e, q ∙ tab_ext c (f i) (λ j. by_row c f (p + j)) (λ j k. rw (h.start, div_at i j c k, mod_at i j c k)))
     (front_part p c (by_row c f) o)
 
--- the row that is lent
-pub row_length : (p c : ℕ) (l : List Float) → p + c ≤ length l → length (take (p + c - p) (drop p l)) ≡ c
-row_length p c l h = rw part_size (simp (length-take, length-drop) (omega arith))
+-- a part of a list by its entries
+pub part_is : (p c : ℕ) (l : List Float) → p + c ≤ length l → take (p + c - p) (drop p l) ≡ tab c (λ j. get_or l (p + j) nan)
+part_is p c l h =
+    rw part_size
+    (tab_is (take c (drop p l)) c _ (simp (length-take, length-drop) (omega arith)) (λ j k. get_or-take c (drop p l) j nan k ∙ get_or-drop p l j nan))

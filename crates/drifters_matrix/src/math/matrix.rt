@@ -1,11 +1,14 @@
 // Port of math/matrix.rs: a matrix of any size, its entries in one flat array, row by row. The loops are those of runs.rt; the factorisation is
-// in drifters_cholesky. A method that returns a matrix makes one; one with `out`, or with `&mut self`, makes none.
+// in drifters_cholesky. A method that returns a matrix makes one; one with `out`, or with `&mut self`, makes none. Operators are named functions, as
+// document 01 wants them (docs/DECISIONS.md). What does not fit changes nothing, or is zeros: no public function has a condition on its values.
 ghost use Rattle.std.specs.Prelude.{◌≡◌, ◌*◌, ◌^◌, ◌≤◌, ◌<◌};
-ghost use Rattle.drifters_matrix.specs.Matrix.{zeros, transpose, matmul, mul_transpose, scaled, set_block, block, all_finite, amax, from_diagonal, identity, diagonal, symmetrize, add_matrix, sub_matrix, neg_matrix};
+ghost use Rattle.drifters_matrix.specs.Matrix.{zeros, unit, transpose, matmul, mul_transpose, scaled, set_block, from_columns, block, all_finite, amax, from_diagonal, identity, diagonal, symmetrize, add_matrix, sub_matrix, neg_matrix};
 
 use crate::math::runs;
 
-// R rows and C columns. N is R * C: a const argument cannot be computed, so the number of entries is a parameter of its own.
+// R rows and C columns. N is R * C: a const argument cannot be computed, so the number of entries is a parameter of its own. That it is R * C is asked
+// by a `requires`, and no ghost field says it: `zeros`, which asks nothing, would then ask it, nine of fifteen functions would still have a `requires`,
+// and each definition and proof that writes a matrix as a record would have to give it.
 #[derive(Clone, Copy)]
 pub struct Matrix<const R: usize, const C: usize, const N: usize> {
     pub data: [f64; N],
@@ -228,6 +231,19 @@ impl<const R: usize, const C: usize, const N: usize> Matrix<R, C, N> {
         runs::set_block_in(&mut self.data, &column, R, C, R, 1, 0, k);
     }
 
+    // The matrix of these columns. They are an array, and no closure gives them: that was tried, and the check does not cover a bound
+    // `Fn(usize) -> [f64; R]`, which names a const parameter.
+    pub fn from_columns(columns: &[[f64; R]; C]) -> Matrix<R, C, N>
+        requires { N ≡ R * C }
+        ensures { result.data ≡ from_columns R C columns.now }
+    {
+        let mut m: Matrix<R, C, N> = Matrix::zeros();
+        for (k, column) in columns.iter().enumerate() {
+            m.set_column(k, *column);
+        }
+        m
+    }
+
     // The block at (r0, c0); zeros where it does not fit.
     pub fn block<const BR: usize, const BC: usize, const M: usize>(
         &self,
@@ -289,4 +305,11 @@ impl<const R: usize, const N: usize> Matrix<R, R, N> {
     {
         runs::symmetrize_in(&mut self.data, R);
     }
+}
+
+// The unit vector at place k: 1.0 there, and +0.0 in every other place.
+pub fn unit<const N: usize>(k: usize) -> [f64; N]
+    ensures { result ≡ unit N k }
+{
+    std::array::from_fn(|i| if i == k { 1.0 } else { 0.0 })
 }

@@ -1,7 +1,10 @@
 // The loops of math/matrix.rs, for all dimensions: a matrix is a run of its entries, row by row. matrix.rt has the record that calls them;
-// the factorisation is in drifters_cholesky. The loops of products carry the start of each row along, by addition: they multiply nothing
-// but two entries, and tools/test_row_starts reads them for it. So they go by index: an iterator hides the start. Sizes are parameters here and no
-// struct, since `Matrix`, which has them in its type, is the struct that calls these.
+// the factorisation is in drifters_cholesky. Sizes are arguments here, where a method of `Matrix` has const parameters: so a proof is about a list
+// and numbers, and one loop serves several methods, as `set_block` and `set_column`, or the transposes and products. The loops of products carry the
+// start of each row along, by addition: they multiply nothing but two entries, and tools/test_row_starts reads them for it. So they go by index: an
+// iterator hides the start. Where a second run is read, that goes by the index of `enumerate`: after a `zip` with `iter_mut` nothing is known of what
+// was written. The loops over every entry differ in their operation: with a closure for it each would keep its name and its contract, and the closure
+// would need one besides.
 ghost use Rattle.std.specs.Prelude.{◌≡◌, ◌+◌, ◌*◌, ◌≤◌, true, leb, length, get_or};
 ghost use Rattle.std.specs.Float.{nan};
 ghost use Rattle.drifters_real.specs.Scalar.{◌⊕◌, ◌⊗◌};
@@ -52,18 +55,18 @@ pub(crate) fn add_scaled(row: &mut [f64], x: f64, b: &[f64], s: usize)
     }
 }
 
-// The row a[s..s + c] times `b`, into `row`: the terms of an entry in the order of k, those of a zero in `a` skipped where `skip` is set. Row k of
-// `b` starts at t. `skip` is an argument: a const parameter or a closure in its place would say the same, and not shorter.
-fn product_row(skip: bool, a: &[f64], s: usize, c: usize, b: &[f64], row: &mut [f64])
+// The row a[s..s + c] times `b`, into `row`: the terms of an entry in the order of k, those of a zero in `a` skipped where SKIP is set. Row k of
+// `b` starts at t.
+fn product_row<const SKIP: bool>(a: &[f64], s: usize, c: usize, b: &[f64], row: &mut [f64])
     requires { (s + c ≤ length a.now) × (c * length row.old ≤ length b.now) }
-    ensures { row.new ≡ tab (length row.old) (λ j. sum_terms skip (λ k. get_or a.now (s + k) nan) (λ k. get_or b.now (k * length row.old + j) nan) c) }
+    ensures { row.new ≡ tab (length row.old) (λ j. sum_terms SKIP (λ k. get_or a.now (s + k) nan) (λ k. get_or b.now (k * length row.old + j) nan) c) }
 {
     clear(row);
     let n = row.len();
     let mut t = 0;
     for k in 0..c {
         let x = a[s + k];
-        if !skip || x != 0.0 {
+        if !SKIP || x != 0.0 {
             add_scaled(row, x, b, t);
         }
         t += n;
@@ -72,8 +75,7 @@ fn product_row(skip: bool, a: &[f64], s: usize, c: usize, b: &[f64], row: &mut [
 
 // The r by c matrix `a` times the c by d matrix `b`, into `out`. The sums of a row are kept in `row`, so that they stay in registers. The row of `a`
 // starts at s, that of `out` at t.
-fn product_into(
-    skip: bool,
+fn product_into<const SKIP: bool>(
     a: &[f64],
     b: &[f64],
     row: &mut [f64],
@@ -83,12 +85,12 @@ fn product_into(
     d: usize,
 )
     requires { (length a.now ≡ r * c) × ((length b.now ≡ c * d) × ((length row.old ≡ d) × (length out.old ≡ r * d))) }
-    ensures { out.new ≡ matrix r d (λ i j. sum_terms skip (at c a.now i) (λ k. at d b.now k j) c) }
+    ensures { out.new ≡ matrix r d (λ i j. sum_terms SKIP (at c a.now i) (λ k. at d b.now k j) c) }
 {
     let mut s = 0;
     let mut t = 0;
     for _ in 0..r {
-        product_row(skip, a, s, c, b, row);
+        product_row::<SKIP>(a, s, c, b, row);
         copy_into(row, &mut out[t..t + d]);
         s += c;
         t += d;
@@ -108,7 +110,7 @@ pub(crate) fn matmul_into(
     requires { (length a.now ≡ r * c) × ((length b.now ≡ c * d) × ((length row.old ≡ d) × (length out.old ≡ r * d))) }
     ensures { out.new ≡ matmul r c d a.now b.now }
 {
-    product_into(true, a, b, row, out, r, c, d);
+    product_into::<true>(a, b, row, out, r, c, d);
 }
 
 // The r by c matrix `a` times the transpose of the d by c matrix `b`, into `out`. The transpose is made in `t`, so that the inner
@@ -127,7 +129,7 @@ pub(crate) fn mul_transpose_into(
     ensures { out.new ≡ mul_transpose r c d a.now b.now }
 {
     transpose_into(b, t, d, c);
-    product_into(false, a, t, row, out, r, c, d);
+    product_into::<false>(a, t, row, out, r, c, d);
 }
 
 // The r by c matrix `a` times the diagonal matrix of `d`, into `out`, where both are finite: each column times its number. The
@@ -161,8 +163,8 @@ fn range_fits(n: usize, len: usize, start: usize) -> bool
     len <= n && start <= n - len
 }
 
-// The br by bc matrix `src` into the block at (r0, c0) of the r by c matrix `m`; nothing where the block does not fit. By index, here and in
-// `block_into`: an entry has two indices, and other ones in the other run.
+// The br by bc matrix `src` into the block at (r0, c0) of the r by c matrix `m`; nothing where the block does not fit. Rows by
+// index, here and in `block_into`: `chunks_exact` asks for rows of a number at least, which a size need not have.
 pub(crate) fn set_block_in(
     m: &mut [f64],
     src: &[f64],
@@ -178,9 +180,9 @@ pub(crate) fn set_block_in(
 {
     if range_fits(r, br, r0) & range_fits(c, bc, c0) {
         for i in 0..br {
-            for j in 0..bc {
-                m[(r0 + i) * c + (c0 + j)] = src[i * bc + j];
-            }
+            let s = i * bc;
+            let t = (r0 + i) * c + c0;
+            m[t..t + bc].copy_from_slice(&src[s..s + bc]);
         }
     }
 }
@@ -201,9 +203,9 @@ pub(crate) fn block_into(
 {
     if range_fits(r, br, r0) & range_fits(c, bc, c0) {
         for i in 0..br {
-            for j in 0..bc {
-                out[i * bc + j] = m[(r0 + i) * c + (c0 + j)];
-            }
+            let s = (r0 + i) * c + c0;
+            let t = i * bc;
+            out[t..t + bc].copy_from_slice(&m[s..s + bc]);
         }
     }
 }
@@ -215,7 +217,7 @@ pub fn all_finite(m: &[f64]) -> bool
     m.iter().fold(true, |finite, x| finite & is_finite(*x))
 }
 
-// The larger of `acc` and the size of x; `acc` where x is not a number.
+// The larger of `acc` and the size of x; `acc` where x is not a number. Where `acc` is none, f64's `max` would give the size of x; this one gives `acc`.
 pub fn larger(acc: f64, x: f64) -> f64
     ensures { result ≡ larger acc x }
 {
@@ -230,23 +232,23 @@ pub(crate) fn amax_of(m: &[f64]) -> f64
     m.iter().fold(0.0, |largest, x| larger(largest, *x))
 }
 
-// The entries of `d` on the diagonal of the n by n matrix `m`, which is all zeros. By index: after a zip of `iter_mut` nothing is known of `m`.
+// The entries of `d` on the diagonal of the n by n matrix `m`, which is all zeros.
 pub(crate) fn from_diagonal_in(m: &mut [f64], d: &[f64], n: usize)
     requires { (m.old ≡ zeros (n * n)) × (length d.now ≡ n) }
     ensures { m.new ≡ from_diagonal n d.now }
 {
-    for i in 0..n {
-        m[i * n + i] = d[i];
+    for (i, x) in d.iter().enumerate() {
+        m[i * n + i] = *x;
     }
 }
 
-// The diagonal of the n by n matrix `m`, into `out`. By index, for the same reason.
+// The diagonal of the n by n matrix `m`, into `out`.
 pub(crate) fn diagonal_into(m: &[f64], out: &mut [f64], n: usize)
     requires { (length m.now ≡ n * n) × (length out.old ≡ n) }
     ensures { out.new ≡ diagonal n m.now }
 {
-    for i in 0..n {
-        out[i] = m[i * n + i];
+    for (i, x) in out.iter_mut().enumerate() {
+        *x = m[i * n + i];
     }
 }
 

@@ -1,5 +1,8 @@
 // Port of math/quat.rs: quaternions, scalar first, by value. What needs a function that no paper defines is left out.
-// `from_array` and `to_array` have the original's names.
+// `from_array` and `to_array` have the original's names, and the product is a named function, as document 01 wants the operators.
+// The definitions that a proof opens.
+#![tactic(auto, unfolding(crate::specs::Quat::norm_quat, crate::specs::Quat::normalized_quat, crate::specs::Quat::conjugate, crate::specs::Quat::rotate, crate::specs::Quat::rotate_inverse, crate::specs::Quat::canonicalized, crate::specs::Quat::short_rotation, crate::specs::Quat::from_rotation_vector, crate::specs::Quat::to_dcm, crate::specs::Quat::finite_quat, crate::specs::Quat::mul_quat))]
+
 ghost use Rattle.std.specs.Prelude.{◌≡◌};
 ghost use Rattle.drifters_quat.specs.Quat.{quat, from_parts, vector, to_array, from_array, norm_quat, normalized_quat, conjugate, rotate, rotate_inverse, canonicalized, short_rotation, from_rotation_vector, to_dcm, finite_quat, mul_quat};
 

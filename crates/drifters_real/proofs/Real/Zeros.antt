@@ -1,16 +1,16 @@
 -- A sum that starts at +0.0 is never -0.0, so a term that is a zero changes no such sum. Assumes nothing.
-use Rattle.std.proofs.Common.{◌≡◌, ℕ, zero, suc, ◌+◌, ◌-◌, ◌*◌, ◌/◌, ◌^◌, ◌<◌, ◌≤◌, Bool, true, false, cond, not, ◌&&◌, ◌||◌, T, eqb, ltb, ℤ, pos, negsuc, sym, refl, ap, ◌∙◌, subst, true≢false, le_trans, le_refl, add-zero, lt_irrefl, mul-le-mul_right, zero-lt-suc, mul_assoc, mul_comm, add-mul, lt_of_mul-lt-mul_right, mul-lt-mul_of_pos_right, mul-pos, one-mul, zero-mul, mul_right_comm, mul_left_comm, arith, ltb→lt, lt→ltb, pow_pos, pow-add}
+use Rattle.std.proofs.Common.{◌≡◌, ℕ, zero, suc, ◌+◌, ◌-◌, ◌*◌, ◌/◌, ◌^◌, ◌<◌, ◌≤◌, Bool, true, false, cond, ◌&&◌, ◌||◌, T, eqb, ltb, ℤ, pos, negsuc, sym, refl, ap, ◌∙◌, subst, true≢false, le_trans, le_refl, add-zero, lt_irrefl, mul-le-mul_right, zero-lt-suc, mul_assoc, mul_comm, add-mul, lt_of_mul-lt-mul_right, mul-lt-mul_of_pos_right, mul-pos, one-mul, zero-mul, mul_right_comm, mul_left_comm, arith, ltb→lt, lt→ltb, pow_pos, pow-add}
 use mathlib.Core.Bool.{beq}
 use native.Mathlib.Nat.{sub-zero}
 use lib.Count.{count_trailing_zeros}
 use lib.Dec.{eqb-suc-zero, leb-suc-zero}
-use lib.Ieee.{Float, nan, inf, fin, Format, binary64, up, down, minus, unlike, below, level, round, sum, neg, add, sub, mul, lt, eq, le, fits, of_bits, odd, units}
-use lib.Ieee.Bits.{is_true, is_false}
+use lib.Ieee.{Float, nan, inf, fin, Format, binary64, up, down, minus, unlike, below, level, round, sum, neg, add, mul, lt, eq, le, fits, of_bits, odd, units}
+use lib.Ieee.Bits.{is_true}
 use lib.Ieee.Fits.{add-fits, up_pos, down_pos, round-fits, round_is}
 use lib.Ieee.Exact.{round_exact}
 use lib.Ieee.Order.{round_mono}
 use lib.Ieee.Scale.{round_same}
-use Rattle.drifters_real.specs.Scalar.{◌⊕◌, ◌⊖◌, ◌⊗◌, plus_zero}
+use Rattle.drifters_real.specs.Scalar.{◌⊕◌, ◌⊗◌, plus_zero}
 use Rattle.drifters_real.specs.Real.{is_finite}
 use Rattle.drifters_real.proofs.Real.Rounding.{fit_of, shift, zero_exp, value_unique, neg_round}
 
@@ -269,33 +269,3 @@ summed_add {x} y h k = record { fitting = add-fits binary64 x y; plain = go x y 
     go (fin s m e) nan h k = unfold add in refl
     go (fin s m e) (inf t) h k = unfold add in refl
     go (fin s m e) (fin t n d) h k = rw add_fin (signs s m e t n d h k)
-
--- ---- a number less itself is +0.0 exactly where it is finite
-not_below_itself : (a : ℕ) → ltb a a ≡ false
-not_below_itself a = is_false (ltb a a) (not_lt (ltb a a) (ltb→lt a a))
-  where
-    not_lt : (b : Bool) → (T b → a < a) → T (not b)
-    not_lt true f = absurd (lt_irrefl a (f tt))
-    not_lt false f = tt
-
-nothing_left : (a : ℕ) → a - a ≡ 0
-nothing_left a = omega arith
-
-cancelled : (s : Bool) (a c : ℕ) → 0 < c → sum binary64 s a (not s) a c ≡ fin false 0 (pos 0)
-unfolding sum
-cancelled true a c p = rw (not_below_itself a, nothing_left a) (round_none false c p)
-cancelled false a c p = rw (not_below_itself a, nothing_left a) (round_none false c p)
-
-zero_is_zero : eq (fin false 0 (pos 0)) plus_zero ≡ true
-unfolding eq of_bits
-zero_is_zero = refl
-
-finite_less_itself : (s : Bool) (m : ℕ) (e : ℤ) → fin s m e ⊖ fin s m e ≡ fin false 0 (pos 0)
-unfolding sub neg
-finite_less_itself s m e = rw add_fin (cancelled s (m * up e * down e) (down e * down e) (down_down e e))
-
-pub less_itself : (x : Float) → eq (x ⊖ x) plus_zero ≡ is_finite x
-less_itself nan = unfold sub add eq is_finite in refl
-less_itself (inf true) = unfold sub neg add eq is_finite in refl
-less_itself (inf false) = unfold sub neg add eq is_finite in refl
-less_itself (fin s m e) = unfold is_finite in ap (λ z. eq z plus_zero) (finite_less_itself s m e) ∙ zero_is_zero

@@ -15,7 +15,7 @@ const UNITS: f64 = 1152921504606846976.0;
 // 2^-54: the unit of the sums.
 const SUM_UNIT: f64 = 5.551115123125783e-17;
 
-// The largest r with r * r <= a, by Newton's iteration.
+// The largest r with r * r <= a, by Newton's iteration. `u64::isqrt`, which goes bit by bit, was tried: a square root took twice as long.
 fn root27(a: u64) -> u64
     requires { (2 ^ 52 ≤ a) × (a < 2 ^ 54) }
     ensures { IsWholeRoot a result }
@@ -28,7 +28,8 @@ fn root27(a: u64) -> u64
 }
 
 // The root of a * 2^52, to the nearest whole number: from the whole part s of a's root, 26 more
-// binary digits by one division (Zimmermann's step). Each function of the root bounds a itself: the bounds differ.
+// binary digits by one division (Zimmermann's step). `root27` has the
+// same `requires`, those of `assemble` and `root_bits` differ: a type for each range would be made here to be taken apart there.
 fn rounded(a: u64) -> u64
     requires { (2 ^ 52 ≤ a) × (a < 2 ^ 54) }
     ensures { result ≡ nearest_root (a * 2 ^ 52) }
@@ -72,11 +73,12 @@ fn root_bits(b: u64) -> u64
     }
 }
 
-// The square root: the nearest f64, ties to even.
+// The square root: the nearest f64, ties to even. It is not f64's method: that promises the root by a definition of its own, and document 01 wants it
+// shown by whole-number squares (docs/DECISIONS.md, 'Scalars').
 pub fn sqrt(x: f64) -> f64
     ensures { result ≡ sqrt x }
 {
-    if x != x {
+    if x.is_nan() {
         return x;
     }
     let b = f64::to_bits(x);
@@ -95,71 +97,73 @@ pub fn sqrt(x: f64) -> f64
     f64::from_bits(root_bits(b))
 }
 
-// The number h * 2^32 + l.
+// The number h * 2^32 + l. That l is below 2^32 is no ghost field: the sums of `add_times` are not carried.
 #[derive(Clone, Copy)]
 struct Wide {
     h: u64,
     l: u64,
 }
 
-// The square of an angle of t units of 2^-60, in units of 2^-64.
-fn squared(t: u64) -> Wide
-    requires { t ≤ 2 ^ 63 }
-    ensures { IsWide result (square t) }
-{
-    let t1 = t >> 32;
-    let t0 = t % 0x1_0000_0000;
-    let z0 = t0 * t0;
-    let z1 = 2 * t1 * t0;
-    let m = (z0 >> 32) + z1 % 0x1_0000_0000;
-    let u = (m >> 32) + (z1 >> 32) + t1 * t1;
-    Wide {
-        h: u >> 24,
-        l: u % 0x100_0000 * 256 + m % 0x1_0000_0000 / 0x100_0000,
+impl Wide {
+    // The square of an angle of t units of 2^-60, in units of 2^-64.
+    fn squared(t: u64) -> Wide
+        requires { t ≤ 2 ^ 63 }
+        ensures { IsWide result (square t) }
+    {
+        let t1 = t >> 32;
+        let t0 = t % 0x1_0000_0000;
+        let z0 = t0 * t0;
+        let z1 = 2 * t1 * t0;
+        let m = (z0 >> 32) + z1 % 0x1_0000_0000;
+        let u = (m >> 32) + (z1 >> 32) + t1 * t1;
+        Wide {
+            h: u >> 24,
+            l: u % 0x100_0000 * 256 + m % 0x1_0000_0000 / 0x100_0000,
+        }
     }
-}
 
-// The term after w, for the angle's square x: the product of w and x, over 2^64 and d.
-fn next_term(w: Wide, x: Wide, d: u64) -> Wide
-    requires { (w.h < 2 ^ 39) × (w.l < 2 ^ 32) × (x.h < 2 ^ 39) × (x.l < 2 ^ 32) × (0 < d) × (d ≤ 8192) }
-    ensures { IsWide result (value w * value x / (2 ^ 64 * d)) }
-{
-    let a2 = w.h >> 32;
-    let a1 = w.h % 0x1_0000_0000;
-    let a0 = w.l;
-    let x2 = x.h >> 32;
-    let x1 = x.h % 0x1_0000_0000;
-    let x0 = x.l;
-    let p0 = a0 * x0;
-    let p1 = a0 * x1;
-    let p2 = a1 * x0;
-    let p3 = a1 * x1;
-    let t = (p0 >> 32) + p1 % 0x1_0000_0000 + p2 % 0x1_0000_0000;
-    let u = (t >> 32) + (p1 >> 32) + (p2 >> 32) + p3 % 0x1_0000_0000 + a2 * x0 + a0 * x2;
-    let v = (u >> 32) + (p3 >> 32) + a2 * x1 + a1 * x2 + a2 * x2 * 0x1_0000_0000;
-    Wide {
-        h: v / d,
-        l: (v % d * 0x1_0000_0000 + u % 0x1_0000_0000) / d,
+    // The term after this one, for the angle's square x: the product of both, over 2^64 and d.
+    fn next_term(self, x: Wide, d: u64) -> Wide
+        requires { (self.h < 2 ^ 39) × (self.l < 2 ^ 32) × (x.h < 2 ^ 39) × (x.l < 2 ^ 32) × (0 < d) × (d ≤ 8192) }
+        ensures { IsWide result (value self * value x / (2 ^ 64 * d)) }
+    {
+        let a2 = self.h >> 32;
+        let a1 = self.h % 0x1_0000_0000;
+        let a0 = self.l;
+        let x2 = x.h >> 32;
+        let x1 = x.h % 0x1_0000_0000;
+        let x0 = x.l;
+        let p0 = a0 * x0;
+        let p1 = a0 * x1;
+        let p2 = a1 * x0;
+        let p3 = a1 * x1;
+        let t = (p0 >> 32) + p1 % 0x1_0000_0000 + p2 % 0x1_0000_0000;
+        let u = (t >> 32) + (p1 >> 32) + (p2 >> 32) + p3 % 0x1_0000_0000 + a2 * x0 + a0 * x2;
+        let v = (u >> 32) + (p3 >> 32) + a2 * x1 + a1 * x2 + a2 * x2 * 0x1_0000_0000;
+        Wide {
+            h: v / d,
+            l: (v % d * 0x1_0000_0000 + u % 0x1_0000_0000) / d,
+        }
     }
-}
 
-// s and k times w, part by part: the low part is not carried.
-fn add_times(s: Wide, k: u64, w: Wide) -> Wide
-    requires { (s.h ≤ 2 ^ 48) × (s.l ≤ 2 ^ 48) × (k ≤ 64) × (w.h ≤ 2 ^ 38) × (w.l < 2 ^ 32) }
-    ensures { (result.h ≡ s.h + k * w.h) × (result.l ≡ s.l + k * w.l) }
-{
-    Wide {
-        h: s.h + k * w.h,
-        l: s.l + k * w.l,
+    // The number and k times w, part by part: the low part is not carried.
+    fn add_times(self, k: u64, w: Wide) -> Wide
+        requires { (self.h ≤ 2 ^ 48) × (self.l ≤ 2 ^ 48) × (k ≤ 64) × (w.h ≤ 2 ^ 38) × (w.l < 2 ^ 32) }
+        ensures { (result.h ≡ self.h + k * w.h) × (result.l ≡ self.l + k * w.l) }
+    {
+        Wide {
+            h: self.h + k * w.h,
+            l: self.l + k * w.l,
+        }
     }
-}
 
-// s over 1024, rounded down: from units of 2^-64 to units of 2^-54.
-fn over_1024(s: Wide) -> u64
-    requires { (s.h < 3 * 2 ^ 40) × (s.l < 2 ^ 48) }
-    ensures { result ≡ value s / 2 ^ 10 }
-{
-    s.h * 0x40_0000 + s.l / 1024
+    // The number over 1024, rounded down: from units of 2^-64 to units of 2^-54.
+    fn over_1024(self) -> u64
+        requires { (self.h < 3 * 2 ^ 40) × (self.l < 2 ^ 48) }
+        ensures { result ≡ value self / 2 ^ 10 }
+    {
+        self.h * 0x40_0000 + self.l / 1024
+    }
 }
 
 // The sums of the terms that are added and of those that are taken off, in units of 2^-54: sp and
@@ -191,18 +195,18 @@ fn power_sums(x: Wide) -> Sums
             break;
         }
         let k = 4 * i;
-        let v = next_term(w, x, (k + 2) * (k + 3));
-        sp = add_times(sp, 1, w);
-        cp = add_times(cp, k + 1, w);
-        sn = add_times(sn, 1, v);
-        cn = add_times(cn, k + 3, v);
-        w = next_term(v, x, (k + 4) * (k + 5));
+        let v = w.next_term(x, (k + 2) * (k + 3));
+        sp = sp.add_times(1, w);
+        cp = cp.add_times(k + 1, w);
+        sn = sn.add_times(1, v);
+        cn = cn.add_times(k + 3, v);
+        w = v.next_term(x, (k + 4) * (k + 5));
     }
     Sums {
-        sp: over_1024(sp),
-        sn: over_1024(sn),
-        cp: over_1024(cp),
-        cn: over_1024(cn),
+        sp: sp.over_1024(),
+        sn: sn.over_1024(),
+        cp: cp.over_1024(),
+        cn: cn.over_1024(),
     }
 }
 
@@ -224,14 +228,15 @@ pub struct SinCos {
     pub cos: f64,
 }
 
-// The sine and the cosine of an angle from 0 to ANGLE_LIMIT; of anything else not a number.
+// The sine and the cosine of an angle from 0 to ANGLE_LIMIT; of anything else not a number. f64's method says nothing of what it gives; document 01
+// wants bits that a definition fixes, and bounds on both.
 pub fn sin_cos(theta: f64) -> SinCos
     ensures { result ≡ sin_cos theta }
 {
     if theta >= 0.0 {
         if theta <= ANGLE_LIMIT {
             let t = std::num::truncating_f64_to_u64(theta * UNITS);
-            let s = power_sums(squared(t));
+            let s = power_sums(Wide::squared(t));
             return SinCos {
                 sin: theta * difference(s.sp, s.sn),
                 cos: difference(s.cp, s.cn),
@@ -248,26 +253,24 @@ pub fn sin_cos(theta: f64) -> SinCos
 pub fn abs(x: f64) -> f64
     ensures { result ≡ abs x }
 {
-    if x < 0.0 {
-        return -x;
-    }
-    if x == 0.0 { 0.0 } else { x }
+    x.abs()
 }
 
-// The larger; where one is not a number, the other.
+// The larger; where one is not a number, the other. f64's method says of 0 and -0 only that it gives one of the two; this one gives `a`.
+#[tactic(auto, unfolding(crate::specs::Real::max))]
 pub fn max(a: f64, b: f64) -> f64
     ensures { result ≡ max a b }
 {
     if a < b {
         b
-    } else if a != a {
+    } else if a.is_nan() {
         b
     } else {
         a
     }
 }
 
-// x brought to low..high; what is not a number stays.
+// x brought to low..high; what is not a number stays. f64's method asks that low <= high; this one asks nothing.
 pub fn clamp(x: f64, low: f64, high: f64) -> f64
     ensures { result ≡ clamp x low high }
 {
@@ -279,5 +282,5 @@ pub fn clamp(x: f64, low: f64, high: f64) -> f64
 pub fn is_finite(x: f64) -> bool
     ensures { result ≡ is_finite x }
 {
-    x - x == 0.0
+    x.is_finite()
 }

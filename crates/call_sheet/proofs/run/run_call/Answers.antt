@@ -1,14 +1,14 @@
 -- `run::run_call` meets its contract.
-use mathlib.Core.Path.{◌≡◌, refl, sym, ap, ◌∙◌}
+use mathlib.Core.Path.{◌≡◌, refl, ap, ◌∙◌}
 use mathlib.Core.List.{List, ◌∷◌}
 use Prim.Native.Nat.{ℕ, zero, suc, ◌≤◌}
 use native.Mathlib.Omega.{arith}
-use lib.ListN.{length, take, drop, length-append}
+use lib.ListN.{length, take}
 use lib.Seq.{length-take-le, take_at}
 use lib.Ieee.{Float}
 use Rattle.drifters_matrix.specs.Matrix.{zeros}
 use Rattle.drifters_real.specs.Scalar.{plus_zero}
-use Rattle.drifters_kind.specs.Kind.{state_length, call_length, written_length, most_call_numbers}
+use Rattle.drifters_kind.specs.Kind.{state_length, call_length, most_call_numbers}
 use Rattle.drifters_kind.specs.declared.kind.Kind.{Kind}
 use Rattle.drifters_entry.specs.Entry.{Outcome, call}
 use Rattle.little_endian.proofs.Numbers.{numbers_in_place}
@@ -22,36 +22,8 @@ take-zeros (suc m) zero h = absurd (omega arith)
 take-zeros (suc m) (suc n) h = ap (λ (l : List Float). plus_zero ∷ l) (take-zeros m n (omega arith))
 
 -- as many places are lent as its kind has numbers, and come back
-few : (kind : Kind) {n : ℕ} → n ≡ call_length kind → n ≤ most_call_numbers
-few kind e = omega (arith, call_most kind)
-
 lent : (kind : Kind) {n : ℕ} → n ≡ call_length kind → length (take n (zeros most_call_numbers)) ≡ n
-lent kind e = length-take-le _ (zeros most_call_numbers) (few kind e)
-
--- and as many for what it writes
-few_written : (kind : Kind) {n : ℕ} → n ≡ written_length kind → n ≤ state_length
-few_written kind e = omega (arith, written_most kind)
-
-pub slice_bounds-numbers-end : goal.slice_bounds-numbers-end
-slice_bounds-numbers-end c = few c.args.kind c.requires
-
-pub slice_bounds-numbers_of-end : goal.slice_bounds-numbers_of-end
-slice_bounds-numbers_of-end c = sym (lent c.args.kind c.requires)
-
-pub slice_bounds-numbers-end-2 : goal.slice_bounds-numbers-end-2
-slice_bounds-numbers-end-2 c =
-    omega (arith, length-append c.numbers_of.new.out (drop (length c.args.bits.now) (zeros most_call_numbers)), c.numbers_of.auto.out ∙ lent c.args.kind c.requires)
-
-pub slice_bounds-call-end : goal.slice_bounds-call-end
-slice_bounds-call-end c =
-    let places = c.numbers_of.auto.out ∙ lent c.args.kind c.requires in
-    sym (ap length (take_at c.numbers_of.new.out _ _ places) ∙ places)
-
-pub slice_bounds-state-end : goal.slice_bounds-state-end
-slice_bounds-state-end c = few_written c.args.kind c.written_length-m.ensures
-
-pub slice_bounds-call-end-2 : goal.slice_bounds-call-end-2
-slice_bounds-call-end-2 c = sym (length-take-le _ (zeros state_length) (few_written c.args.kind c.written_length-m.ensures))
+lent kind e = length-take-le _ (zeros most_call_numbers) (omega (arith, call_most kind, e))
 
 pub returns : goal.returns
 returns c =

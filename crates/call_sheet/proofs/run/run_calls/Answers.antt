@@ -14,7 +14,6 @@ use Rattle.drifters_entry.specs.Log.{outcome_on, entries_from}
 use Rattle.drifters_eqf.specs.Answer.{Answer}
 use Rattle.drifters_kind.specs.declared.kind.Kind.{Kind}
 use Rattle.drifters_kind.specs.declared.kind.Kind.TheVariants.{Propagate}
-use Rattle.call_sheet.proofs.Digits.{places_lent}
 use Rattle.little_endian.specs.Bytes.{placed}
 use Rattle.call_sheet.specs.Sheet.{SheetCall, sheet_call, is_some, calls_in}
 use Rattle.call_sheet.specs.Text.{call_of, line_text, lines_text, lines_of}
@@ -105,12 +104,6 @@ one-made {run₀} {run} {run'} {kinds} {numbers} {text₀} {text} {text'} {at} {
           ∙ sym (append_assoc m.lines _ _)
           ∙ sym (λ j. m.lines ++ line_text (i + 1) kind (is-answer j) ++ lines_on (i + 1 + 1) (is-run j) next.rest);
     }
-
--- a call is made with as many bits as its kind asks for
-pub run_call-answer-requires : goal.run_call-answer-requires
-run_call-answer-requires c =
-    let within = next-within c.loop-i.invariant c.loop-i-test.true c.call_length.ensures in
-    places_lent c.args.numbers.now c.loop-i.at c.call_length.result within ∙ c.call_length.ensures
 
 pub slice_bounds-run_call-end : goal.slice_bounds-run_call-end
 slice_bounds-run_call-end c = next-within c.loop-i.invariant c.loop-i-test.true c.call_length.ensures

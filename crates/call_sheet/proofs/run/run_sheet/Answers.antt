@@ -6,6 +6,7 @@ use native.Mathlib.Omega.{arith}
 use lib.ListN.{length, take, drop, replicate, length-map}
 use lib.Seq.{take_at}
 use lib.Ieee.{Float}
+use Rattle.std.proofs.Common.{rules}
 use Rattle.std.specs.Prelude.{Option, Some, None, Result, Ok, Err}
 use Rattle.drifters_eqf.specs.Answer.{refusal_number}
 use Rattle.drifters_eqf.specs.declared.answer.Refusal.{Refusal}
@@ -14,7 +15,7 @@ use Rattle.drifters_entry.specs.Layout.{filter_length}
 use Rattle.drifters_kind.specs.declared.kind.Kind.{Kind}
 use Rattle.drifters_kind.specs.declared.kind.Kind.TheVariants.{State}
 use Rattle.little_endian.specs.Bytes.{placed}
-use Rattle.little_endian.proofs.Numbers.{numbers_in_place}
+use Rattle.little_endian.proofs.Numbers.{numbers_mapped}
 use Rattle.call_sheet.specs.Sheet.{Sheet, read_sheet, most_calls, most_numbers, kinds_of, bits_of, Runs, runs, in_runs, read_into, is_some, calls_in, Held}
 use Rattle.call_sheet.specs.Text.{refused_line, numbers_of, lines_of, text_of, sheet_text, printed}
 use Rattle.call_sheet.proofs.Held.{sheets_held}
@@ -109,7 +110,7 @@ run_calls-requires c =
 pub returns-in-Ok : goal.returns-in-Ok
 returns-in-Ok c =
     let a = c.args in
-    let lines = text (the_sheet (goal.at.returns-in-Ok c).In-Ok) (c.numbers_of.ensures ∙ numbers_in_place _ _ (sym c.read_sheet.auto.filter)) in
+    let lines = text (the_sheet (goal.at.returns-in-Ok c).In-Ok) (numbers_mapped _ _ _ _ c.read_sheet.auto.filter (λ p q b x call. search rules) c.map-run.ensures.items) in
     let put = c.run_calls in
     (λ i. printed (Ok ((put.ensures.0 ∙ ap length lines) i)) ((put.ensures.1 ∙ ap (placed a.text.now 0) lines) i))
     ∙ sym (room a.s.now a.text.now c.if-text-lt-MOST_TEXT.false)

@@ -1,7 +1,7 @@
 -- `sheet::entries` meets its contract.
 use mathlib.Core.Path.{refl, sym, ◌∙◌}
 use native.Mathlib.Omega.{arith}
-use Rattle.call_sheet.proofs.SheetLayout.{Header, no_sheet, sheet_calls}
+use Rattle.call_sheet.proofs.SheetLayout.{Header, header_holds, no_sheet}
 use Rattle.call_sheet.proofs.sheet.entries.Goals as goal
 use Rattle.call_sheet.proofs.sheet.entries.Goals.{then-s-lt4-via-then-s-lt4, then-s-lt4-via-else-s-lt4+then-s-gt-MOST_BYTES, then-n-lt1-via-then-n-lt1, then-n-lt1-via-else-n-lt1+then-n-gt-MOST_ENTRIES, then-u32_at-ne0-via-then-u32_at-ne0, then-u32_at-ne0-via-else-u32_at-ne0+then-u32_at-n}
 
@@ -42,7 +42,7 @@ returns-then-u32_at-ne0 c =
       | then-u32_at-ne0-via-else-u32_at-ne0+then-u32_at-n far ↦ far.if-u32_at-n.true (far.u32_at-else-u32_at-ne0.ensures ∙ read.header.offset)
     ])
 
--- past the tests the calls decide
+-- past the tests
 pub returns : goal.returns
 returns c =
     let s = c.args.s.now in
@@ -55,4 +55,4 @@ returns c =
       kind = sym c.u32_at.ensures ∙ c.if-u32_at-ne0.false;
       offset = sym c.u32_at-else-u32_at-ne0.ensures ∙ c.if-u32_at-n.false;
     } in
-    c.then_some.ensures ∙ sheet_calls s c.u32_at-n.ensures header c.calls_fit.ensures
+    (c.u32_at-n.ensures, header_holds s c.u32_at-n.ensures header, c.if-s-n.false)

@@ -3,12 +3,11 @@ use mathlib.Core.Path.{◌≡◌, refl, sym, ap, ◌∙◌}
 use mathlib.Core.List.{List}
 use Prim.Native.Nat.{ℕ, suc, ◌+◌, ◌-◌, ◌≤◌, ◌<◌}
 use native.Mathlib.Omega.{arith}
-use native.Mathlib.Numerals.{unary_clauses}
 use lib.Ieee.{Float}
 use Rattle.drifters_real.specs.Scalar.{two, half}
 use Rattle.drifters_matrix.specs.Matrix.{matmul, scaled, identity, add_matrix}
-use Rattle.drifters_lie.specs.Lie.{adjoint_se3, exp_se3}
-use Rattle.drifters_adjoint.specs.Adjoint.{doubled, scaled_se3}
+use Rattle.drifters_lie.specs.Lie.{scaled_se3, adjoint_se3, exp_se3}
+use Rattle.drifters_adjoint.specs.Adjoint.{doubled}
 use Rattle.drifters_lie.specs.declared.lie.Se3Tangent.{Se3Tangent}
 use Rattle.drifters_adjoint.proofs.adjoint.double.Invariants.{Doubling}
 use Rattle.drifters_adjoint.proofs.adjoint.double.Goals as goal
@@ -25,10 +24,6 @@ doubled-more n w psi = refl
 doubled-zero : (w : Se3Tangent) (psi : List Float) → doubled 0 w psi ≡ psi
 unfolding doubled
 doubled-zero w psi = refl
-
--- none made
-start : (n : ℕ) (w : Se3Tangent) (psi : List Float) → Doubling n w psi 0 w psi
-start n w psi = record { bound = omega arith; value = simp unary_clauses refl }
 
 -- one made
 next : {n i : ℕ} {w v v' : Se3Tangent} {psi out out' : List Float} → Doubling n w psi i v out → i < n → v' ≡ scaled_se3 v two → out' ≡ doubled_once v out →
@@ -48,14 +43,7 @@ loop-preserved c =
     let a = c.adjoint.ensures ∙ ap adjoint_se3 c.exp.ensures in
     let s = c.add.ensures ∙ (λ i. add_matrix 36 (c.identity.ensures i) (a i)) in
     let p = c.matmul-step.ensures ∙ (λ i. matmul 6 6 6 (s i) c.loop.out.«data») in
-    let twice = c.new-v.ensures ∙ (λ i. record { omega = c.mul.ensures i; nu = c.mul-in-loop.ensures i }) in
-    next c.loop.invariant (omega arith) twice (c.scaled-out.ensures ∙ (λ i. scaled 36 (p i) half))
+    next c.loop.invariant (omega arith) c.scaled-v.ensures (c.scaled-out.ensures ∙ (λ i. scaled 36 (p i) half))
 
 pub returns : goal.returns
 returns c = done c.loop.invariant (omega arith)
-
-pub loop-init : goal.loop-init
-loop-init c = start _ _ _
-
-pub overflow_step : goal.overflow_step
-overflow_step c = omega (arith, c.ranges)

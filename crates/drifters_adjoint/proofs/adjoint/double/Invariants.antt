@@ -13,7 +13,4 @@ pub record Doubling (n : ℕ) (w : Se3Tangent) (psi : List Float) (i : ℕ) (v :
   pub value : doubled n w psi ≡ doubled (n - i) v out
 
 abbrev pub invariant-loop : goal.invariant-loop
-invariant-loop l = Doubling l.n l.initial.v l.initial.out.data l.counter l.v l.out.data
-
-abbrev pub decreases-loop : goal.decreases-loop
-decreases-loop l = l.n - l.counter
+invariant-loop l = Doubling l.fn.h.halvings l.initial.v l.initial.out.data l.counter l.v l.out.data

@@ -3,12 +3,12 @@ use mathlib.Core.Path.{◌≡◌, refl, sym, ap, ◌∙◌}
 use mathlib.Core.Bool.{true, false}
 use Prim.Native.Nat.{ℕ, zero, suc, ◌+◌, ◌-◌, ◌<◌}
 use native.Mathlib.Omega.{arith}
-use native.Mathlib.Numerals.{unary_clauses}
 use lib.Ieee.{Float, lt}
 use Rattle.drifters_real.specs.Scalar.{half}
 use Rattle.drifters_real.specs.Real.{max}
 use Rattle.drifters_core.specs.Vec3.{amax_vec3}
-use Rattle.drifters_adjoint.specs.Adjoint.{sixteenth, halvings, halved, most_halvings, scaled_se3}
+use Rattle.drifters_lie.specs.Lie.{scaled_se3}
+use Rattle.drifters_adjoint.specs.Adjoint.{sixteenth, halvings, halved, most_halvings}
 use Rattle.drifters_lie.specs.declared.lie.Se3Tangent.{Se3Tangent}
 use Rattle.drifters_adjoint.proofs.adjoint.halve.Invariants.{Halving}
 use Rattle.drifters_adjoint.proofs.adjoint.halve.Goals as goal
@@ -46,10 +46,6 @@ halved-more : (n : ℕ) (w : Se3Tangent) → halved (suc n) w ≡ halved n (scal
 unfolding halved
 halved-more n w = refl
 
--- none made
-start : (most : ℕ) (v : Se3Tangent) → Halving most v 0 v
-start most v = record { bound = omega arith; count = simp unary_clauses (omega arith); value = simp unary_clauses refl }
-
 -- one made
 next : {most n : ℕ} {v w w' : Se3Tangent} → Halving most v n w → n < most → lt sixteenth (size w) ≡ true → w' ≡ scaled_se3 w half → Halving most v (n + 1) w'
 next {most} {n} {v} {w} {w'} h b e z =
@@ -61,13 +57,10 @@ next {most} {n} {v} {w} {w'} h b e z =
 done : {most n : ℕ} {v w : Se3Tangent} → Halving most v n w → halvings (most - n) w ≡ 0 → (n ≡ halvings most v) × (w ≡ halved (halvings most v) v)
 done {most} {n} {v} {w} h e = (omega (arith, h.count, e), sym (h.value ∙ rw e (halved-zero w)))
 
-pub loop-n-init : goal.loop-n-init
-loop-n-init c = start _ _
-
 pub loop-n-preserved : goal.loop-n-preserved
 loop-n-preserved c =
     let above = ap (lt sixteenth) (size_is c.loop-n.w c.amax.ensures c.amax-in-loop-n.ensures c.max.ensures) ∙ c.if-not-max.false in
-    next c.loop-n.invariant (omega arith) above (c.new-w.ensures ∙ (λ i. record { omega = c.mul.ensures i; nu = c.mul-in-loop-n.ensures i }))
+    next c.loop-n.invariant (omega arith) above c.scaled-w.ensures
 
 pub returns-then-not-max : goal.returns-then-not-max
 returns-then-not-max c =

@@ -13,6 +13,3 @@ pub record Halving (most : ℕ) (v : Se3Tangent) (n : ℕ) (w : Se3Tangent) : Ty
 
 abbrev pub invariant-loop-n : goal.invariant-loop-n
 invariant-loop-n l = Halving most_halvings l.initial.w l.n l.w
-
-abbrev pub decreases-loop-n : goal.decreases-loop-n
-decreases-loop-n l = most_halvings - l.n

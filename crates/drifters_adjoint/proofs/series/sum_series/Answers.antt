@@ -1,8 +1,4 @@
 -- `series::sum_series` meets its contract.
-use mathlib.Core.Path.{◌∙◌, ap}
-use mathlib.Core.List.{List}
-use lib.Ieee.{Float}
-use Rattle.drifters_adjoint.specs.Adjoint.{series}
 use Rattle.drifters_adjoint.proofs.SeriesLaws.Blocks.{series_whole}
 use Rattle.drifters_adjoint.proofs.series.sum_series.Goals as goal
 
@@ -10,7 +6,3 @@ use Rattle.drifters_adjoint.proofs.series.sum_series.Goals as goal
 pub returns-then-is_finite : goal.returns-then-is_finite
 returns-then-is_finite c =
     series_whole c.args.w c.ad-m.ensures c.series-psi.ensures c.is_finite.ensures c.is_finite-2.ensures c.if-is_finite.true c.whole.ensures
-
--- the general way
-pub returns : goal.returns
-returns c = c.matrix_series.ensures ∙ ap (λ (l : List Float). series l 15) c.ad.ensures

@@ -1,45 +1,72 @@
 -- `compasses::update_compasses` meets its contract.
-use mathlib.Core.Path.{refl, sym, ap₂, ◌∙◌}
+use Prim.Native.Nat.{ℕ}
+use mathlib.Core.Path.{◌≡◌, sym, ap₂, ◌∙◌}
 use mathlib.Core.Bool.{◌&&◌}
-use Rattle.std.specs.Prelude.{Some, None}
-use Rattle.drifters_compasses.specs.Compasses.{tried}
+use mathlib.Core.List.{List}
+use lib.ListN.{length, take}
+use lib.Ieee.{Float}
+use Rattle.std.specs.Prelude.{◌/◌}
+use Rattle.std.specs.Simd.{first_chunks}
+use Rattle.std.proofs.lemmas.Result.{err_from_is_err_and}
+use Rattle.drifters_entry.proofs.Calls.{refused_none}
+use Rattle.drifters_compasses.specs.Compasses.{BestTry, reading_length, tried, attempt, best_of}
+use Rattle.drifters_compasses.specs.Kept.{attempt_of}
+use Rattle.drifters_compasses.proofs.Tried.{tried_bounds}
+use Rattle.drifters_compasses.proofs.Tries.{best_of_first}
 use Rattle.drifters_compasses.proofs.Calls.{run_refused, north_noise_refused, readings_refused, blank_refused, best_applied, none_applied}
 use Rattle.drifters_compasses.proofs.compasses.update_compasses.Goals as goal
 
-pub returns-in_default : goal.returns-in_default
-returns-in_default c = run_refused _ _ _ _ c.in_default.ensures.cases
+pub returns-in_err-run : goal.returns-in_err-run
+returns-in_err-run c =
+    let p = err_from_is_err_and c.from_residual.result c.from_residual.ensures.1 in
+    rw (p.1, p.2, refused_none c.as_mut_array.result c.ok_or.ensures.value c.in_err-run.was) (run_refused _ _ _ _ (rw (c.ok_or.ensures.ok_part, c.in_err-run.was) at c.as_mut_array.ensures.cases))
 
-pub returns-in_default-as_array : goal.returns-in_default-as_array
-returns-in_default-as_array c = rw c.in-Some.ensures.cases.same (north_noise_refused _ _ _ _ c.in_default-as_array.ensures.cases)
+pub returns-in_err-north_noise : goal.returns-in_err-north_noise
+returns-in_err-north_noise c =
+    let p = err_from_is_err_and c.from_residual-in_err-north_noise.result c.from_residual-in_err-north_noise.ensures.1 in
+    let whole = rw (c.ok_or.ensures.ok_part, c.in_ok-run.was) at c.as_mut_array.ensures.cases in
+    rw (p.1, p.2, refused_none c.as_array.result c.ok_or-2.ensures.value c.in_err-north_noise.was, whole.same) (north_noise_refused _ _ _ _ (rw (c.ok_or-2.ensures.ok_part, c.in_err-north_noise.was) at c.as_array.ensures.cases))
 
 pub returns-then-not-readings_fit : goal.returns-then-not-readings_fit
 returns-then-not-readings_fit c =
-    let whole = c.in-Some.ensures.cases in
-    rw whole.same (readings_refused _ _ _ _ whole.long c.in-Some-as_array.ensures.cases.long (sym c.readings_fit.ensures ∙ c.if-not-readings_fit.true))
+    let whole = rw (c.ok_or.ensures.ok_part, c.in_ok-run.was) at c.as_mut_array.ensures.cases in
+    let north = rw (c.ok_or-2.ensures.ok_part, c.in_ok-north_noise.was) at c.as_array.ensures.cases in
+    rw whole.same (readings_refused _ _ _ _ whole.long north.long (sym c.readings_fit.ensures ∙ c.if-not-readings_fit.true))
 
 pub returns-then-not-all_finite : goal.returns-then-not-all_finite
 returns-then-not-all_finite c =
-    let whole = c.in-Some.ensures.cases in
-    let north = c.in-Some-as_array.ensures.cases in
+    let whole = rw (c.ok_or.ensures.ok_part, c.in_ok-run.was) at c.as_mut_array.ensures.cases in
+    let north = rw (c.ok_or-2.ensures.ok_part, c.in_ok-north_noise.was) at c.as_array.ensures.cases in
     rw whole.same
     (blank_refused _ _ _ _ whole.long north.long (sym c.readings_fit.ensures ∙ c.if-not-readings_fit.false)
     (sym (ap₂ ◌&&◌ (rw whole.same at c.all_finite.ensures) (rw north.same at c.all_finite-2.ensures)) ∙ c.if-not-all_finite.true))
 
-pub returns-in-Some-best_of : goal.returns-in-Some-best_of
-unfolding tried
-returns-in-Some-best_of c =
-    let whole = c.in-Some.ensures.cases in
-    let north = c.in-Some-as_array.ensures.cases in
-    best_applied _ _ _ _ whole.long north.long (sym c.readings_fit.ensures ∙ c.if-not-readings_fit.false) _ (Some c.in-Some-best_of.best)
-    (sym (ap₂ ◌&&◌ (rw whole.same at c.all_finite.ensures) (rw north.same at c.all_finite-2.ensures)) ∙ c.if-not-all_finite.false)
-    c.min-tried.ensures (rw (whole.same, north.same) at c.in-Some-best_of.ensures) refl
+-- the first readings are those that the run is cut into
+first : (run readings north_noise : List Float) (budget : ℕ) {b : BestTry} {cut : List (List Float)} {k : ℕ} → cut ≡ first_chunks reading_length (length readings / reading_length) readings
+    → length cut ≡ length readings / reading_length → k ≡ tried budget (length readings / reading_length)
+    → b ≡ best_of (attempt_of run (take k cut) north_noise) (length (take k cut)) → b ≡ best_of (attempt run readings north_noise) k
+first run readings north_noise budget {k = k} is long few e =
+    e ∙ best_of_first run readings north_noise (length readings / reading_length) k is long (rw few (tried_bounds.count budget (length readings / reading_length)))
 
-pub returns-in-None : goal.returns-in-None
+pub returns-then-is_some : goal.returns-then-is_some
 unfolding tried
-returns-in-None c =
-    let whole = c.in-Some.ensures.cases in
-    let north = c.in-Some-as_array.ensures.cases in
-    rw whole.same
-    (none_applied _ _ _ _ whole.long north.long (sym c.readings_fit.ensures ∙ c.if-not-readings_fit.false) c.args.run.now None
+returns-then-is_some c =
+    let whole = rw (c.ok_or.ensures.ok_part, c.in_ok-run.was) at c.as_mut_array.ensures.cases in
+    let north = rw (c.ok_or-2.ensures.ok_part, c.in_ok-north_noise.was) at c.as_array.ensures.cases in
+    let few = rw c.as_chunks.ensures.front_len at c.min-tried.ensures in
+    best_applied _ _ _ _ whole.long north.long (sym c.readings_fit.ensures ∙ c.if-not-readings_fit.false) _ c.best_of-best.result
     (sym (ap₂ ◌&&◌ (rw whole.same at c.all_finite.ensures) (rw north.same at c.all_finite-2.ensures)) ∙ c.if-not-all_finite.false)
-    c.min-tried.ensures (rw (whole.same, north.same) at c.in-None.ensures) refl)
+    few (first _ c.args.readings.now _ c.args.budget c.as_chunks.ensures.front c.as_chunks.ensures.front_len few (rw (whole.same, north.same) at c.best_of-best.ensures))
+    (sym c.is_some.ensures ∙ c.if-is_some.true)
+
+pub returns-else-is_some : goal.returns-else-is_some
+unfolding tried
+returns-else-is_some c =
+    let whole = rw (c.ok_or.ensures.ok_part, c.in_ok-run.was) at c.as_mut_array.ensures.cases in
+    let north = rw (c.ok_or-2.ensures.ok_part, c.in_ok-north_noise.was) at c.as_array.ensures.cases in
+    let few = rw c.as_chunks.ensures.front_len at c.min-tried.ensures in
+    rw whole.same
+    (none_applied _ _ _ _ whole.long north.long (sym c.readings_fit.ensures ∙ c.if-not-readings_fit.false) _ c.best_of-best.result
+    (sym (ap₂ ◌&&◌ (rw whole.same at c.all_finite.ensures) (rw north.same at c.all_finite-2.ensures)) ∙ c.if-not-all_finite.false)
+    few (first _ c.args.readings.now _ c.args.budget c.as_chunks.ensures.front c.as_chunks.ensures.front_len few (rw (whole.same, north.same) at c.best_of-best.ensures))
+    (sym c.is_some.ensures ∙ c.if-is_some.false))

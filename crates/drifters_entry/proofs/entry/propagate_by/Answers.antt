@@ -9,9 +9,9 @@ pub returns-in_err-filter : goal.returns-in_err-filter
 unfolding performed
 returns-in_err-filter c =
     let p = err_from_is_err_and c.from_residual.result c.from_residual.ensures.1 in
-    rw (p.1, p.2) (given_refused c.args.run.now (rw (c.from_run.ensures, c.process_noise_at-q.ensures, c.vec3_at-2.ensures, c.vec3_at.ensures) at c.in_err-filter.ensures))
+    rw (p.1, p.2) (given_refused c.args.run.now (rw c.from_run.ensures at c.in_err-filter.ensures))
 
 pub returns : goal.returns
 unfolding performed
 returns c =
-    c.write_filter.ensures ∙ given c.args.run.now (rw (c.from_run.ensures, c.process_noise_at-q.ensures, c.vec3_at-2.ensures, c.vec3_at.ensures) at c.in_ok-filter.ensures)
+    c.write_filter.ensures ∙ given c.args.run.now (rw c.from_run.ensures at c.in_ok-filter.ensures)

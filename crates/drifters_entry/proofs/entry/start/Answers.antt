@@ -5,10 +5,12 @@ use mathlib.Core.List.{List, []}
 use borrow.Author.Tests.{eq-eqb, ne_eqb}
 use lib.ListN.{length}
 use lib.Ieee.{Float}
+use Rattle.std.proofs.lemmas.Result.{err_from_is_err_and}
 use Rattle.drifters_matrix.specs.Matrix.{all_finite}
 use Rattle.drifters_eqf.specs.Answer.{Fine, length_refusal, blank_refusal}
 use Rattle.drifters_entry.specs.Layout.{filter_length, start_length}
 use Rattle.drifters_entry.specs.Entry.{Outcome, outcome, refused, range_checked, started, start}
+use Rattle.drifters_entry.proofs.Calls.{refused_none}
 use Rattle.drifters_entry.proofs.entry.start.Goals as goal
 
 module _ (run v : List Float) where
@@ -28,22 +30,28 @@ module _ (run v : List Float) where
     unfolding start
     given t n h e = rw (eq-eqb _ _ long, eq-eqb _ _ n, h) (rw same at e)
 
-pub returns-in_default : goal.returns-in_default
-returns-in_default c = run_refused c.args.run.now c.args.numbers.now c.in_default.ensures.cases
+pub returns-in_err-run : goal.returns-in_err-run
+returns-in_err-run c =
+    let p = err_from_is_err_and c.from_residual.result c.from_residual.ensures.1 in
+    rw (p.1, p.2, refused_none c.as_mut_array.result c.ok_or.ensures.value c.in_err-run.was) (run_refused c.args.run.now c.args.numbers.now (rw (c.ok_or.ensures.ok_part, c.in_err-run.was) at c.as_mut_array.ensures.cases))
 
-pub returns-then-numbers-ne-START_LENGTH : goal.returns-then-numbers-ne-START_LENGTH
-returns-then-numbers-ne-START_LENGTH c =
-    let whole = c.in-Some.ensures.cases in
-    numbers_refused c.args.run.now c.args.numbers.now whole.long whole.same c.if-numbers-ne-START_LENGTH.true
+pub returns-in_err-numbers : goal.returns-in_err-numbers
+returns-in_err-numbers c =
+    let p = err_from_is_err_and c.from_residual-in_err-numbers.result c.from_residual-in_err-numbers.ensures.1 in
+    let whole = rw (c.ok_or.ensures.ok_part, c.in_ok-run.was) at c.as_mut_array.ensures.cases in
+    rw (p.1, p.2, refused_none c.as_array.result c.ok_or-2.ensures.value c.in_err-numbers.was)
+    (numbers_refused c.args.run.now c.args.numbers.now whole.long whole.same (rw (c.ok_or-2.ensures.ok_part, c.in_err-numbers.was) at c.as_array.ensures.cases))
 
 pub returns-then-not-all_finite : goal.returns-then-not-all_finite
 returns-then-not-all_finite c =
-    let whole = c.in-Some.ensures.cases in
-    given c.args.run.now c.args.numbers.now whole.long whole.same false c.if-numbers-ne-START_LENGTH.false (sym c.all_finite.ensures ∙ c.if-not-all_finite.true) refl
+    let whole = rw (c.ok_or.ensures.ok_part, c.in_ok-run.was) at c.as_mut_array.ensures.cases in
+    let all = rw (c.ok_or-2.ensures.ok_part, c.in_ok-numbers.was) at c.as_array.ensures.cases in
+    given c.args.run.now c.args.numbers.now whole.long whole.same false all.long (sym (rw all.same at c.all_finite.ensures) ∙ c.if-not-all_finite.true) refl
 
 pub returns : goal.returns
 unfolding started
 returns c =
-    let whole = c.in-Some.ensures.cases in
-    given c.args.run.now c.args.numbers.now whole.long whole.same true c.if-numbers-ne-START_LENGTH.false (sym c.all_finite.ensures ∙ c.if-not-all_finite.false)
-    (rw (c.new-filter.ensures, c.state_from_run-initial.ensures, c.matrix_at-sigma.ensures, c.vec3_at-gravity.ensures) at c.write_filter.ensures)
+    let whole = rw (c.ok_or.ensures.ok_part, c.in_ok-run.was) at c.as_mut_array.ensures.cases in
+    let all = rw (c.ok_or-2.ensures.ok_part, c.in_ok-numbers.was) at c.as_array.ensures.cases in
+    given c.args.run.now c.args.numbers.now whole.long whole.same true all.long (sym (rw all.same at c.all_finite.ensures) ∙ c.if-not-all_finite.false)
+    (rw (c.new-filter.ensures, c.state_from_run-initial.ensures, c.matrix_at-sigma.ensures, c.vec3_at-gravity.ensures, all.same) at c.write_filter.ensures)

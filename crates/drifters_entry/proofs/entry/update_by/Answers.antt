@@ -1,5 +1,17 @@
 -- `entry::update_by` meets its contract.
+use mathlib.Core.Path.{◌∙◌}
+use Rattle.std.proofs.lemmas.Result.{err_from_is_err_and}
+use Rattle.drifters_entry.specs.Layout.{from_run}
+use Rattle.drifters_entry.specs.Entry.{performed}
+use Rattle.drifters_entry.proofs.Calls.{given, given_refused}
 use Rattle.drifters_entry.proofs.entry.update_by.Goals as goal
 
+pub returns-in_err-updated : goal.returns-in_err-updated
+unfolding performed from_run
+returns-in_err-updated g c =
+    let p = err_from_is_err_and c.from_residual.result c.from_residual.ensures.1 in
+    rw (p.1, p.2) (given_refused c.args.run.now (rw c.from_run.ensures at c.in_err-updated.ensures))
+
 pub returns : goal.returns
-returns c = rw (← c.matrix_at-noise.ensures, ← c.from.ensures) c.update_with.ensures
+unfolding performed from_run
+returns g c = c.write_filter.ensures ∙ given c.args.run.now (rw c.from_run.ensures at c.in_ok-updated.ensures)

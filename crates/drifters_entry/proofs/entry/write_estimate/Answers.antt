@@ -17,14 +17,14 @@ unfolding performed range_checked
 checked run written m e f h = rw (← e, f, and-true, h)
 
 pub returns : goal.returns
-unfolding state_to_run nav_state
+unfolding nav_state
 returns c =
     rw c.copy_from_slice.ensures.after
     (checked c.args.run.now c.args.written.now _ (rw (c.act_state-state.ensures, c.default.ensures, c.symmetry_from_run.ensures) at c.state_numbers-numbers.ensures) c.requires.1
     (sym c.all_finite.ensures ∙ c.if-not-all_finite.false))
 
 pub returns-then-not-all_finite : goal.returns-then-not-all_finite
-unfolding state_to_run nav_state
+unfolding nav_state
 returns-then-not-all_finite c =
     checked c.args.run.now c.args.written.now _ (rw (c.act_state-state.ensures, c.default.ensures, c.symmetry_from_run.ensures) at c.state_numbers-numbers.ensures) c.requires.1
     (sym c.all_finite.ensures ∙ c.if-not-all_finite.true)

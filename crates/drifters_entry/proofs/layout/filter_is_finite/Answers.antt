@@ -6,7 +6,7 @@ use Rattle.drifters_real.specs.Real.{is_finite}
 use Rattle.drifters_matrix.specs.Matrix.{all_finite}
 use Rattle.drifters_core.specs.Vec3.{to_array, finite_vec3}
 use Rattle.drifters_lie.specs.Lie.{to_array_se3}
-use Rattle.drifters_entry.specs.Layout.{pose_numbers, to_run}
+use Rattle.drifters_entry.specs.Layout.{pose_numbers, to_run, state_to_run}
 use Rattle.drifters_eqf.specs.declared.filter.EqFilter.{EqFilter}
 use Rattle.drifters_entry.proofs.Parts.{all_finite_append, all_finite_vec3, all_finite_one}
 use Rattle.drifters_entry.proofs.layout.filter_is_finite.Goals as goal
@@ -19,6 +19,7 @@ unfolding to_run
 finite-filter f p q r s = rw (p, q, r, s) (simp (all_finite_append, all_finite_vec3, all_finite_one))
 
 pub returns : goal.returns
+unfolding state_to_run
 returns c =
     finite-filter c.args.filter.now
-    (rw c.state_numbers-numbers.ensures at c.all_finite.ensures) c.all_finite-2.ensures c.is_finite.ensures c.is_finite-2.ensures
+    (rw (c.state_numbers-numbers.ensures, c.state_of.ensures) at c.all_finite.ensures) c.all_finite-2.ensures c.is_finite.ensures c.is_finite-2.ensures

@@ -13,7 +13,7 @@ returns c =
     let nu = rw (c.sub.ensures, gravity) at c.add.ensures in
     let rho = c.mul_vec3-2.ensures ∙ (λ i. mul_mat3_vec3 (record { «data» = c.transpose-r_t.ensures i }) a.xi.pose.velocity) in
     let pose = rw (c.sub-rate.ensures, nu, rho) at c.new-c.ensures in
-    let gamma = rw (c.pi.ensures ∙ ap pi pose) at c.bracket-gamma.ensures in
-    let delta = rw c.sub-rate.ensures at c.cross-delta.ensures in
-    let mag = c.mul_vec3-e.ensures ∙ (λ i. mul_mat3_vec3 (record { «data» = c.transpose.ensures i }) (c.sub-rate.ensures i)) in
+    let gamma = rw (c.pi.ensures ∙ ap pi pose) at c.bracket.ensures in
+    let delta = rw c.sub-rate.ensures at c.cross.ensures in
+    let mag = c.mul_vec3-3.ensures ∙ (λ i. mul_mat3_vec3 (record { «data» = c.transpose.ensures i }) (c.sub-rate.ensures i)) in
     λ i. record { c = pose i; gamma = gamma i; delta = delta i; e = mag i }

@@ -10,8 +10,8 @@ use lib.Ieee.{Float, nan}
 use lib.ListN.{get_or, set, length-set}
 use Rattle.drifters_real.specs.Scalar.{◌⊕◌, ◌⊗◌, plus_zero}
 use Rattle.drifters_matrix.specs.Matrix.{at, sum_terms}
-use Rattle.drifters_matrix.proofs.Matrix.RowStart.{RowStart, row_start_first, row_start_next}
-use Rattle.drifters_matrix.proofs.Matrix.Grid.{entries_none, entries_set, entries_next, entries_done}
+use Rattle.drifters_matrix.proofs.Matrix.RowStart.{RowStart}
+use Rattle.drifters_matrix.proofs.Matrix.Grid.{entries_set, entries_done}
 use Rattle.drifters_adjoint.specs.Series.{add_terms, product_at}
 use Rattle.drifters_adjoint.proofs.series.Blocks.matmul.Invariants.{Written}
 use Rattle.drifters_adjoint.proofs.series.Blocks.matmul.Goals as goal
@@ -54,24 +54,8 @@ lower-next : {t m : List Float} {i s u j : ℕ} {l : List Float} {x v : Float} �
 lower-next {t} {m} {i} {s} {u} {j} w h o p q d e =
     next w p q (e ∙ ap (λ (x : Float). add_terms x t u m (j + 9)) d ∙ lower t m j w.row-start h o)
 
--- one row more
-next_row : {t m : List Float} {i s j : ℕ} {l : List Float} → Written t m i s j l → 3 ≤ j → Written t m (i + 1) (s + 3) 0 l
-next_row w h = record { row-start = row_start_next w.row-start; column = omega arith; size = w.size; entries = entries_next w.entries (omega (arith, w.column)) }
-
--- the row of P beside the next row of Q
-next-upper : {i u : ℕ} → 3 ≤ i → RowStart (i - 3) 3 u → RowStart (i + 1 - 3) 3 (u + 3)
-next-upper {i} h w = let e : i + 1 - 3 ≡ i - 3 + 1 = omega arith in rw e (row_start_next w)
-
-pub loop-init : goal.loop-init
-loop-init c = (omega arith, record { row-start = row_start_first; column = omega arith; size = refl; entries = entries_none })
-
 pub loop-j-preserved : goal.loop-j-preserved
 loop-j-preserved c = upper-next c.loop-j.invariant (omega arith) (omega arith) c.add_terms.ensures
-
-pub loop-2-init : goal.loop-2-init
-loop-2-init c =
-    let e : c.loop.counter ≡ 3 = omega arith in
-    (omega arith, omega arith, row_start_first, rw e at c.loop.invariant.1)
 
 pub loop-j-2-preserved : goal.loop-j-2-preserved
 loop-j-2-preserved c =
@@ -80,24 +64,3 @@ loop-j-2-preserved c =
 
 pub returns : goal.returns
 returns c = let w = c.loop-2.invariant in entries_done w.3.entries (omega arith) w.3.size
-
-pub loop-j-init : goal.loop-j-init
-loop-j-init c = c.loop.invariant.1
-
-pub add_terms-requires : goal.add_terms-requires
-add_terms-requires c = (omega arith, omega arith)
-
-pub loop-preserved : goal.loop-preserved
-loop-preserved c = (omega arith, next_row c.loop-j.invariant c.loop-j-test.false)
-
-pub loop-j-2-init : goal.loop-j-2-init
-loop-j-2-init c = let w = c.loop-2.invariant in (w.2, w.3)
-
-pub add_terms-sum-requires : goal.add_terms-sum-requires
-add_terms-sum-requires c = (omega arith, omega arith)
-
-pub add_terms-requires-in-loop-j-2 : goal.add_terms-requires-in-loop-j-2
-add_terms-requires-in-loop-j-2 c = (omega arith, omega arith)
-
-pub loop-2-preserved : goal.loop-2-preserved
-loop-2-preserved c = let v = c.loop-j-2.invariant in (omega arith, omega arith, next-upper (omega arith) v.0, next_row v.1 c.loop-j-2-test.false)

@@ -20,23 +20,11 @@ pub record Written (t m : List Float) (i s j : ℕ) (l : List Float) : Type 0 wh
 abbrev pub invariant-loop-j : goal.invariant-loop-j
 invariant-loop-j l = Written l.t l.r l.counter l.s l.j l.data
 
-abbrev pub decreases-loop-j : goal.decreases-loop-j
-decreases-loop-j l = 3 - l.j
-
 abbrev pub invariant-loop : goal.invariant-loop
 invariant-loop l = (l.counter ≤ 3) × Written l.t l.r l.counter l.s 0 l.data
-
-abbrev pub decreases-loop : goal.decreases-loop
-decreases-loop l = 3 - l.counter
 
 abbrev pub invariant-loop-j-2 : goal.invariant-loop-j-2
 invariant-loop-j-2 l = RowStart (l.counter - 3) 3 l.upper × Written l.t l.r l.counter l.s l.j l.data
 
-abbrev pub decreases-loop-j-2 : goal.decreases-loop-j-2
-decreases-loop-j-2 l = 3 - l.j
-
 abbrev pub invariant-loop-2 : goal.invariant-loop-2
 invariant-loop-2 l = (3 ≤ l.counter) × (l.counter ≤ 6) × RowStart (l.counter - 3) 3 l.upper × Written l.t l.r l.counter l.s 0 l.data
-
-abbrev pub decreases-loop-2 : goal.decreases-loop-2
-decreases-loop-2 l = 6 - l.counter

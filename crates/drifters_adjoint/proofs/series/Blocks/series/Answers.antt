@@ -8,7 +8,7 @@ use Rattle.drifters_real.specs.Scalar.{◌⊗◌}
 use Rattle.drifters_matrix.specs.Matrix.{matrix, scaled, add_matrix}
 use Rattle.drifters_matrix.proofs.Matrix.Tab.{tab_ext, get_d_tab}
 use Rattle.drifters_adjoint.specs.Series.{product_at, times_blocks, blocks_term, blocks_series}
-use Rattle.drifters_adjoint.proofs.SeriesLaws.Loop.{added_next, added_done}
+use Rattle.drifters_adjoint.proofs.SeriesLaws.Loop.{added_next}
 use Rattle.drifters_adjoint.proofs.series.Blocks.series.Goals as goal
 
 -- the product p of t and m, times s
@@ -25,6 +25,3 @@ unfolding blocks_term blocks_series
 loop-k-preserved c =
     added_next (λ t s. times_blocks t c.args.m.columns.«data» s) (add_matrix 18) (λ k. refl) (λ k. refl) c.loop-k.invariant (omega arith)
     (times _ _ _ c.matmul.ensures c.scaled-term.ensures) c.add-psi.ensures
-
-pub returns : goal.returns
-returns c = added_done c.loop-k.invariant (omega arith)

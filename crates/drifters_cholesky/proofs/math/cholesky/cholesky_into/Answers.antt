@@ -1,38 +1,16 @@
 -- `cholesky_into` meets its contract. The loops keep the factor's entries before the one that is made. Assumes nothing.
 use mathlib.Core.Path.{◌≡◌, refl, sym, ap, ◌∙◌}
-use mathlib.Core.Bool.{true, cond}
+use mathlib.Core.Bool.{true, cond, not}
 use Prim.Native.Nat.{ℕ, ◌+◌, ◌*◌}
 use native.Mathlib.Omega.{arith}
 use lib.ListN.{length, set, length-set, length-replicate}
 use Rattle.drifters_matrix.specs.Matrix.{at}
 use Rattle.drifters_cholesky.specs.Cholesky.{none, lower, cholesky, bad_pivot, factor_rows, factor_columns, sub_terms, reduced}
-use Rattle.drifters_matrix.proofs.Matrix.Place.{Place}
 use Rattle.drifters_matrix.proofs.Matrix.Grid.{row_in}
 use Rattle.drifters_cholesky.proofs.SubTerms.{sub_step}
 use Rattle.drifters_cholesky.proofs.Factor.{not_finite_bad, finite_bad, stop, pivot, quotient, factor_rows_next, stops}
 use Rattle.drifters_cholesky.proofs.math.cholesky.cholesky_into.Goals as goal
 use Rattle.drifters_cholesky.proofs.math.cholesky.cholesky_into.Goals.{then-i-j+else-not-is_finite+else-sum, else-i-j, then-not-is_finite-via-then-not-is_finite, then-not-is_finite-via-else-not-is_finite+then-sum, In-loop-k, In-columns, After-loop-k}
-use Rattle.std.proofs.Common.{not, true}
-
--- the place of entry (i, k) of l
-left_place : (c : In-loop-k) → let a = c.args in Place (c.rows.i * a.n) c.loop-k.k (length c.columns.l)
-left_place c = omega arith
-
--- that of entry (j, k)
-right_place : (c : In-loop-k) → let a = c.args in Place (c.columns.j * a.n) c.loop-k.k (length c.columns.l)
-right_place c = omega arith
-
--- the place of entry (i, j) of a
-given_place : (c : In-columns) → let a = c.args in Place (c.rows.i * a.n) c.columns.j (length a.a.now)
-given_place c = omega arith
-
--- that of entry (i, j) of l
-made_place : (c : In-columns) → let a = c.args in Place (c.rows.i * a.n) c.columns.j (length c.columns.l)
-made_place c = omega arith
-
--- that of entry (j, j) of l
-pivot_place : (c : After-loop-k) → let a = c.args in Place (c.columns.j * a.n) c.columns.j (length c.columns.l)
-pivot_place c = omega arith
 
 pub rows-init : goal.rows-init
 unfolding factor_rows
@@ -118,75 +96,3 @@ returns-then-not-is_finite c =
     ] in
     let e = stop a.n a.a.now c.rows.i c.columns.j (factor_rows a.n a.a.now c.rows.i) c.columns.l s c.columns.invariant.4 whole p b in
     stops a.n a.a.now c.rows.i (omega arith) (ap (λ (m : ℕ). factor_columns a.n a.a.now c.rows.i (m + 1) (factor_rows a.n a.a.now c.rows.i)) p ∙ e)
-
-pub overflow_mul-sum : goal.overflow_mul-sum
-overflow_mul-sum c = (given_place (goal.at.overflow_mul-sum c).In-columns).start
-
-pub overflow_add-sum : goal.overflow_add-sum
-overflow_add-sum c = (given_place (goal.at.overflow_add-sum c).In-columns).index
-
-pub offset_bounds-a-i : goal.offset_bounds-a-i
-offset_bounds-a-i c = (given_place (goal.at.offset_bounds-a-i c).In-columns).offset
-
-pub bounds-a-i : goal.bounds-a-i
-bounds-a-i c = (given_place (goal.at.bounds-a-i c).In-columns).inside
-
-pub overflow_mul-sum-in-loop-k : goal.overflow_mul-sum-in-loop-k
-overflow_mul-sum-in-loop-k c = (left_place (goal.at.overflow_mul-sum-in-loop-k c).In-loop-k).start
-
-pub overflow_add-sum-in-loop-k : goal.overflow_add-sum-in-loop-k
-overflow_add-sum-in-loop-k c = (left_place (goal.at.overflow_add-sum-in-loop-k c).In-loop-k).index
-
-pub offset_bounds-l-i : goal.offset_bounds-l-i
-offset_bounds-l-i c = (left_place (goal.at.offset_bounds-l-i c).In-loop-k).offset
-
-pub bounds-l-i : goal.bounds-l-i
-bounds-l-i c = (left_place (goal.at.bounds-l-i c).In-loop-k).inside
-
-pub overflow_mul-sum-in-loop-k-2 : goal.overflow_mul-sum-in-loop-k-2
-overflow_mul-sum-in-loop-k-2 c = (right_place (goal.at.overflow_mul-sum-in-loop-k-2 c).In-loop-k).start
-
-pub overflow_add-sum-in-loop-k-2 : goal.overflow_add-sum-in-loop-k-2
-overflow_add-sum-in-loop-k-2 c = (right_place (goal.at.overflow_add-sum-in-loop-k-2 c).In-loop-k).index
-
-pub offset_bounds-l-j : goal.offset_bounds-l-j
-offset_bounds-l-j c = (right_place (goal.at.offset_bounds-l-j c).In-loop-k).offset
-
-pub bounds-l-j : goal.bounds-l-j
-bounds-l-j c = (right_place (goal.at.bounds-l-j c).In-loop-k).inside
-
-pub overflow_mul-l : goal.overflow_mul-l
-overflow_mul-l c = (made_place (goal.at.overflow_mul-l c).In-columns).start
-
-pub overflow_add-l : goal.overflow_add-l
-overflow_add-l c = (made_place (goal.at.overflow_add-l c).In-columns).index
-
-pub offset_bounds-l-i-then-i-j : goal.offset_bounds-l-i-then-i-j
-offset_bounds-l-i-then-i-j c = (made_place (goal.at.offset_bounds-l-i-then-i-j c).In-columns).offset
-
-pub bounds-l-i-then-i-j : goal.bounds-l-i-then-i-j
-bounds-l-i-then-i-j c = (made_place (goal.at.bounds-l-i-then-i-j c).In-columns).inside
-
-pub overflow_mul-l-else-i-j : goal.overflow_mul-l-else-i-j
-overflow_mul-l-else-i-j c = (pivot_place (goal.at.overflow_mul-l-else-i-j c).After-loop-k).start
-
-pub overflow_add-l-else-i-j : goal.overflow_add-l-else-i-j
-overflow_add-l-else-i-j c = (pivot_place (goal.at.overflow_add-l-else-i-j c).After-loop-k).index
-
-pub offset_bounds-l-j-else-i-j : goal.offset_bounds-l-j-else-i-j
-offset_bounds-l-j-else-i-j c = (pivot_place (goal.at.offset_bounds-l-j-else-i-j c).After-loop-k).offset
-
-pub bounds-l-j-else-i-j : goal.bounds-l-j-else-i-j
-bounds-l-j-else-i-j c = (pivot_place (goal.at.bounds-l-j-else-i-j c).After-loop-k).inside
-
-pub overflow_mul-l-else-i-j-2 : goal.overflow_mul-l-else-i-j-2
-overflow_mul-l-else-i-j-2 c = (made_place (goal.at.overflow_mul-l-else-i-j-2 c).In-columns).start
-
-pub overflow_add-l-else-i-j-2 : goal.overflow_add-l-else-i-j-2
-overflow_add-l-else-i-j-2 c = (made_place (goal.at.overflow_add-l-else-i-j-2 c).In-columns).index
-
-pub offset_bounds-l-i-else-i-j : goal.offset_bounds-l-i-else-i-j
-offset_bounds-l-i-else-i-j c = (made_place (goal.at.offset_bounds-l-i-else-i-j c).In-columns).offset
-
-pub bounds-l-i-else-i-j : goal.bounds-l-i-else-i-j
-bounds-l-i-else-i-j c = (made_place (goal.at.bounds-l-i-else-i-j c).In-columns).inside

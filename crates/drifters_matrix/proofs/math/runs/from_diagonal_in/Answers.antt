@@ -4,26 +4,17 @@ use mathlib.Core.Bool.{Bool, true, false, cond}
 use mathlib.Core.List.{List}
 use Prim.Native.Nat.{ℕ, ◌+◌, ◌*◌, ◌<◌}
 use native.Mathlib.Omega.{arith}
-use borrow.Author.Count.{below_none, below_more}
+use borrow.Author.Count.{below_more}
 use borrow.Author.Tests.{eqb-true, eqb-false}
 use lib.Dec.{eqb}
 use lib.Ieee.{Float, nan}
-use lib.ListN.{length, get_or, set, length-set, length-replicate, get_or-replicate}
+use lib.ListN.{get_or, set, length-set}
 use lib.Seq.{get_or-set_same, get_or-set_other}
 use Rattle.drifters_real.specs.Scalar.{plus_zero}
-use Rattle.drifters_matrix.specs.Matrix.{at, zeros, from_diagonal}
+use Rattle.drifters_matrix.specs.Matrix.{at, from_diagonal}
 use Rattle.drifters_matrix.proofs.Matrix.Grid.{at_in, same_place, matrix_is}
 use Rattle.drifters_matrix.proofs.math.runs.from_diagonal_in.Invariants.{Rows, entry_of}
 use Rattle.drifters_matrix.proofs.math.runs.from_diagonal_in.Goals as goal
-
-rows_none : {n : ℕ} (d : List Float) {l : List Float} → l ≡ zeros (n * n) → Rows n d 0 l
-rows_none {n} d {l} e =
-    record {
-      bound = omega arith;
-      size = ap length e ∙ length-replicate (n * n) plus_zero;
-      passed = below_none (λ p. (q : ℕ) → q < n → at n l p q ≡ entry_of d p q);
-      rest = λ p q _ h k. ap (λ (m : List Float). at n m p q) e ∙ get_or-replicate (n * n) (p * n + q) plus_zero nan (at_in p q n n h k);
-    }
 
 rows-set : {n : ℕ} {d : List Float} {i : ℕ} {l : List Float} → Rows n d i l → i < n → Rows n d (i + 1) (set l (i * n + i) (get_or d i nan))
 rows-set {n} {d} {i} {l} w h =
@@ -48,21 +39,6 @@ rows-set {n} {d} {i} {l} w h =
 rows_done : {n : ℕ} {d : List Float} {i : ℕ} {l : List Float} → Rows n d i l → i ≡ n → l ≡ from_diagonal n d
 unfolding from_diagonal
 rows_done {n} {d} {i} {l} w e = matrix_is n n (entry_of d) l w.size (λ p q h k. w.passed p (omega arith) q k)
-
-pub loop-i-init : goal.loop-i-init
-loop-i-init c = let w = rows_none c.args.d.now c.requires.0 in (w.size, w)
-
-pub overflow_mul-m : goal.overflow_mul-m
-overflow_mul-m c = omega (arith, at_in _ _ _ _ c.loop-i-test.true c.loop-i-test.true)
-
-pub overflow_add-m : goal.overflow_add-m
-overflow_add-m c = omega (arith, at_in _ _ _ _ c.loop-i-test.true c.loop-i-test.true)
-
-pub offset_bounds-m-i : goal.offset_bounds-m-i
-offset_bounds-m-i c = omega (arith, at_in _ _ _ _ c.loop-i-test.true c.loop-i-test.true)
-
-pub bounds-m-i : goal.bounds-m-i
-bounds-m-i c = omega (arith, at_in _ _ _ _ c.loop-i-test.true c.loop-i-test.true)
 
 pub loop-i-preserved : goal.loop-i-preserved
 loop-i-preserved c = let w = c.loop-i.invariant in (w.0, rows-set w.1 (omega arith))

@@ -4,8 +4,8 @@ use Prim.Native.Nat.{◌+◌, ◌≤◌}
 use native.Mathlib.Omega.{arith}
 use lib.ListN.{length, length-set}
 use Rattle.drifters_matrix.specs.Matrix.{transpose}
-use Rattle.drifters_matrix.proofs.Matrix.Columns.{columns_none, columns_set, columns_next, columns_done}
-use Rattle.drifters_matrix.proofs.Matrix.RowStart.{row_start_first, row_start_next, row_start_in}
+use Rattle.drifters_matrix.proofs.Matrix.Columns.{columns_set, columns_done}
+use Rattle.drifters_matrix.proofs.Matrix.RowStart.{row_start_next, row_start_in}
 use Rattle.drifters_matrix.proofs.math.runs.transpose_into.Goals as goal
 use Rattle.drifters_matrix.proofs.math.runs.transpose_into.Goals.{In-loop-j}
 
@@ -13,37 +13,12 @@ use Rattle.drifters_matrix.proofs.math.runs.transpose_into.Goals.{In-loop-j}
 row_in_out : (c : In-loop-j) → c.loop-j.t + c.args.r ≤ length c.loop-j.out
 row_in_out c = let v = c.loop-j.invariant in omega (arith, row_start_in v.2 c.loop-j-test.true, v.5)
 
-pub loop-j-init : goal.loop-j-init
-loop-j-init c =
-    let v = c.loop-i.invariant in
-    (omega arith, v.1, row_start_first, omega arith, omega (arith, row_start_in v.1 c.loop-i-test.true), v.2, v.3)
-
 pub loop-j-preserved : goal.loop-j-preserved
 loop-j-preserved c =
     let v = c.loop-j.invariant in
     let h = (row_in_out (goal.at.loop-j-preserved c).In-loop-j) in
     (omega arith, v.1, row_start_next v.2, v.3, v.4, simp length-set v.5, rw (v.2.start, v.1.start) (columns_set v.6 (omega arith) (omega arith) (omega arith) refl))
 
-pub loop-i-preserved : goal.loop-i-preserved
-loop-i-preserved c =
-    let v = c.loop-j.invariant in
-    (omega arith, row_start_next v.1, v.5, columns_next v.6 (omega arith))
-
 pub returns : goal.returns
 unfolding transpose
 returns c = let v = c.loop-i.invariant in columns_done v.3 (omega arith) v.2
-
-pub loop-i-init : goal.loop-i-init
-loop-i-init c = (omega arith, row_start_first, c.requires.1, columns_none)
-
-pub overflow_add-out-in-loop-j : goal.overflow_add-out-in-loop-j
-overflow_add-out-in-loop-j c = omega (arith, (row_in_out (goal.at.overflow_add-out-in-loop-j c).In-loop-j))
-
-pub offset_bounds-out-t : goal.offset_bounds-out-t
-offset_bounds-out-t c = omega (arith, (row_in_out (goal.at.offset_bounds-out-t c).In-loop-j))
-
-pub bounds-out-t : goal.bounds-out-t
-bounds-out-t c = omega (arith, (row_in_out (goal.at.bounds-out-t c).In-loop-j))
-
-pub overflow_add-t : goal.overflow_add-t
-overflow_add-t c = omega (arith, (row_in_out (goal.at.overflow_add-t c).In-loop-j))

@@ -13,7 +13,8 @@ pub loop-k-preserved : goal.loop-k-preserved
 loop-k-preserved c =
     let k = c.loop-k.k in
     let cols = column c.args.self in
-    let set = rw (c.loop-k.invariant.1, c.bracket_unit.ensures) at c.set_column.ensures in
+    let numbers = rw (c.bracket.ensures, c.from_array.ensures, c.unit.ensures) at c.to_array.ensures in
+    let set = rw (c.loop-k.invariant.1, numbers) at c.set_column.ensures in
     (omega arith, set ∙ next_column 21 21 k cols (omega arith))
 
 pub returns : goal.returns

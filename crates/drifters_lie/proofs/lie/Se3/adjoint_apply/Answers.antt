@@ -1,7 +1,0 @@
--- `Se3::adjoint_apply` meets its contract.
-use Rattle.drifters_lie.specs.Lie.{adjoint_apply_se3}
-use Rattle.drifters_lie.proofs.lie.Se3.adjoint_apply.Goals as goal
-
-pub returns : goal.returns
-unfolding adjoint_apply_se3
-returns c = cc

@@ -1,7 +1,0 @@
--- `velocity_output_matrix` meets its contract.
-use Rattle.drifters_symmetry.specs.Linear.{velocity_output_matrix}
-use Rattle.drifters_symmetry.proofs.linear.velocity_output_matrix.Goals as goal
-
-pub returns : goal.returns
-unfolding velocity_output_matrix
-returns c = cc
