@@ -78,7 +78,7 @@ pub data CompassesAnswer : Type 0 where
   None : ℕ → CompassesAnswer
   Refused : ℕ → CompassesAnswer
 
--- the answer of k tries, by the best of them
+-- the answer of k tries, by the best of them; none where none was accepted
 abbrev pub tried_answer : ℕ → Option Best → CompassesAnswer
 tried_answer k (Some b) = Chosen b.index b.nis k
 tried_answer k _ = None k

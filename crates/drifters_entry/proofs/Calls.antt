@@ -1,15 +1,16 @@
 -- The laws of a call by its tests: the lengths, the finiteness of what comes in, and that of what is given out. Assumes nothing.
 use Prim.Native.Nat.{ℕ}
 use mathlib.Core.Path.{◌≡◌, refl, sym, ap, ◌∙◌}
-use mathlib.Core.Bool.{Bool, true, false, cond, ◌&&◌, and-eq-true_iff}
-use mathlib.Core.List.{List, [], ◌∷◌}
-use native.Mathlib.Omega.{arith}
+use mathlib.Core.Bool.{Bool, true, false, cond, ◌&&◌}
+use mathlib.Core.List.{List, []}
 use lib.Dec.{eqb}
 use lib.ListN.{length}
 use lib.Ieee.{Float}
 use borrow.Author.Tests.{eqb-true, eq-eqb, ne_eqb}
 use Rattle.std.specs.Prelude.{Option, Some, None, Result, Ok, Err}
 use Rattle.std.specs.Option.{ok_or}
+use Rattle.std.proofs.lemmas.List.{nil_from_length}
+use Rattle.std.proofs.lemmas.Bool.{and_parts}
 use Rattle.drifters_real.specs.Real.{is_finite}
 use Rattle.drifters_matrix.specs.Matrix.{all_finite}
 use Rattle.drifters_eqf.specs.Answer.{Answer, accepted, length_refusal, blank_refusal, range_refusal, refusal_number}
@@ -67,8 +68,8 @@ module _ (kind : Kind) (run v written : List Float) where
     pub passed : {u : Unit {0}} → r ≡ Ok u → Passed kind run v written
     passed z =
         let both = none_refused (lengths_fit (form_of kind) run v (length written)) (all_finite run && all_finite v) (sym e ∙ z) in
-        let runs = (and-eq-true_iff _ (eqb (length written) (written_length kind))).0 both.0 in
-        let fits = (and-eq-true_iff _ (eqb (length v) (call_length kind))).0 runs.0 in
+        let runs = and_parts _ (eqb (length written) (written_length kind)) both.0 in
+        let fits = and_parts _ (eqb (length v) (call_length kind)) runs.0 in
         record {
           run_length = eqb-true (length run) filter_length fits.0;
           v_length = eqb-true (length v) (call_length kind) fits.1;
@@ -87,10 +88,6 @@ pub call_passed : (kind : Kind) (run v written : List Float) {o : Outcome} → P
 unfolding call
 call_passed kind run v written p e = rw (eq-eqb _ _ p.run_length, eq-eqb _ _ p.v_length, eq-eqb _ _ p.written_length_lem, p.finite) e
 
-pub no_numbers : (v : List Float) → length v ≡ 0 → v ≡ []
-no_numbers [] e = refl
-no_numbers (x ∷ v) e = absurd (omega (arith, e))
-
 -- a call that asks for q
 module _ (kind : Kind) (run v : List Float) {written : List Float} (q : Request) (asked : q ≡ request_of kind (from_run run) v) (p : Passed kind run v written) where
   -- how many numbers it writes beside the filter
@@ -103,7 +100,7 @@ module _ (kind : Kind) (run v : List Float) {written : List Float} (q : Request)
   -- where it writes none
   pub call_made : {left : List Float} {o : Answer} → written_by q ≡ 0 → outcome o left [] ≡ range_checked (performed q (from_run run) run []) run []
       → outcome o left written ≡ call kind run v written
-  call_made nothing e = call_asked (rw (no_numbers written (asked_length ∙ nothing)) e)
+  call_made nothing e = call_asked (rw (nil_from_length written (asked_length ∙ nothing)) e)
 
 -- ---- what is given out
 

@@ -161,7 +161,7 @@ fn asked_by(kind: Kind, run: &[f64; FILTER_LENGTH], numbers: &[f64]) -> Result<A
     }
 }
 
-// The propagation of a filter.
+// The propagation of a filter. The parameters are those of `EqFilter::propagate`, the original's.
 fn propagate_by(u: Input, dt: f64, q: ProcessNoise, run: &mut [f64; FILTER_LENGTH]) -> Answer
     ensures { outcome (answer_of result) run.new [] ≡ range_checked (performed (propagation u dt q) (from_run run.old) run.old []) run.old [] }
 {
@@ -183,7 +183,7 @@ fn update_by<const W: usize, const WW: usize, const WS: usize>(
     write_filter(Some(updated.nis), &updated.filter, run)
 }
 
-// Eighteen densities from `at` on; no `From`, since ProcessNoise is another crate's.
+// Eighteen densities from `at` on; no `From`, since ProcessNoise is another crate's. A run and a place, as in layout.rt.
 fn process_noise_at(numbers: &[f64], at: usize) -> ProcessNoise
     requires { at + 18 ≤ length numbers.now }
     ensures { result ≡ process_noise_at numbers.now at }
@@ -210,7 +210,7 @@ fn write_filter(nis: Option<f64>, filter: &EqFilter, run: &mut [f64; FILTER_LENG
     Ok(nis)
 }
 
-// The estimate of a filter, into `written`; refused as range where it is not finite.
+// The estimate of a filter, into `written`; refused as range where it is not finite. Not by `EqFilter::nav_state`: a filter would be read for it whole.
 fn write_estimate(run: &[f64; FILTER_LENGTH], written: &mut [f64]) -> Answer
     requires { (length written.old ≡ state_length) × (all_finite run.now ≡ true) }
     ensures { outcome (answer_of result) run.now written.new ≡ range_checked (performed estimate (from_run run.now) run.now written.old) run.now written.old }

@@ -1,12 +1,14 @@
 -- What is known of every kind by its number and its lengths. A new kind is a line of `kinds_found`; what follows names no kind. Assumes nothing.
-use Prim.Native.Nat.{ℕ, ◌≤◌, ◌<◌}
+use Prim.Native.Nat.{ℕ, suc, ◌≤◌, ◌<◌}
 use mathlib.Core.Path.{◌≡◌, refl, sym, ap, ◌∙◌}
-use mathlib.Core.Bool.{Bool, true, false, ◌&&◌, cond, and-eq-true_iff}
+use mathlib.Core.Bool.{Bool, true, false, cond}
 use mathlib.Core.List.{List, [], ◌∷◌}
-use borrow.Author.Tests.{leb-true, ltb-true}
-use lib.Dec.{eqb, leb, ltb}
+use borrow.Author.Tests.{leb-true}
+use lib.Dec.{eqb, leb}
 use Rattle.std.specs.Prelude.{Some}
+use Rattle.std.specs.List.{list_all}
 use Rattle.std.proofs.lemmas.Option.{none-some, same_Some}
+use Rattle.std.proofs.lemmas.Bool.{and_parts}
 use Rattle.drifters_kind.specs.Kind.{state_length, kind_number, call_length, written_length, most_call_numbers, all_kinds, find_kind, KindsFound}
 use Rattle.drifters_kind.specs.declared.kind.Kind.{Kind}
 use Rattle.drifters_kind.specs.declared.kind.Kind.TheVariants.{Propagate, Position, Velocity, Direction, General, State, Scalar}
@@ -23,17 +25,12 @@ kinds_found General = refl
 kinds_found State = refl
 kinds_found Scalar = refl
 
--- whether a test holds of some kinds
-unfoldable every : (Kind → Bool) → List Kind → Bool
-every p [] = true
-every p (kind ∷ kinds) = p kind && every p kinds
-
 -- a kind that is found passes every test that the kinds pass
-found_passes : (p : Kind → Bool) (n : ℕ) (kinds : List Kind) {kind : Kind} → find_kind n kinds ≡ Some kind → every p kinds ≡ true → p kind ≡ true
-unfolding find_kind every
+found_passes : (p : Kind → Bool) (n : ℕ) (kinds : List Kind) {kind : Kind} → find_kind n kinds ≡ Some kind → list_all p kinds ≡ true → p kind ≡ true
+unfolding find_kind
 found_passes p n [] {kind} e h = absurd (none-some kind e)
 found_passes p n (first ∷ kinds) {kind} e h =
-    let both = (and-eq-true_iff (p first) (every p kinds)).0 h in
+    let both = and_parts (p first) (list_all p kinds) h in
     go (eqb n (kind_number first)) both.0 e (λ later. found_passes p n kinds later both.1)
   where
     go : (b : Bool) → p first ≡ true → cond b (Some first) (find_kind n kinds) ≡ Some kind → (find_kind n kinds ≡ Some kind → p kind ≡ true) → p kind ≡ true
@@ -42,20 +39,20 @@ found_passes p n (first ∷ kinds) {kind} e h =
 
 -- ---- what holds of every kind, by a test that is computed
 
-every_kind : (p : Kind → Bool) → every p all_kinds ≡ true → (kind : Kind) → p kind ≡ true
+every_kind : (p : Kind → Bool) → list_all p all_kinds ≡ true → (kind : Kind) → p kind ≡ true
 every_kind p h kind = found_passes p (kind_number kind) all_kinds (kinds_found kind) h
+
+every_at_most : (f : Kind → ℕ) (n : ℕ) → list_all (λ k. leb (f k) n) all_kinds ≡ true → (kind : Kind) → f kind ≤ n
+every_at_most f n h kind = leb-true _ _ (every_kind (λ k. leb (f k) n) h kind)
 
 -- no call has more numbers
 pub call_most : (kind : Kind) → call_length kind ≤ most_call_numbers
-unfolding every
-call_most kind = leb-true _ _ (every_kind (λ k. leb (call_length k) most_call_numbers) refl kind)
+call_most = every_at_most call_length most_call_numbers refl
 
 -- none writes more than a state
 pub written_most : (kind : Kind) → written_length kind ≤ state_length
-unfolding every
-written_most kind = leb-true _ _ (every_kind (λ k. leb (written_length k) state_length) refl kind)
+written_most = every_at_most written_length state_length refl
 
 -- the number of a kind has one digit
 pub number_digit : (kind : Kind) → kind_number kind < 10
-unfolding every
-number_digit kind = ltb-true _ _ (every_kind (λ k. ltb (kind_number k) 10) refl kind)
+number_digit = every_at_most (λ k. suc (kind_number k)) 10 refl

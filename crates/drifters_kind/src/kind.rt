@@ -18,7 +18,8 @@ pub enum Kind {
 #[derive(Clone, Copy)]
 pub struct UnknownKind(pub u32);
 
-// The number of a kind, how many numbers a call of it has, and how many it writes beside the filter.
+// The number of a kind, how many numbers a call of it has, and how many it writes beside the filter. The number is a field, and no `From`: the definition
+// `form_of` has the three in one record, of which the theorem `KindsFound` speaks.
 #[derive(Clone, Copy)]
 pub struct Form {
     pub number: u32,

@@ -20,7 +20,7 @@ pub fn bits_of(x: f64) -> u64
     f64_to_bits_with_nan(x)
 }
 
-// The numbers of bit patterns; where `out` is of another length it stays.
+// The numbers of bit patterns; where `out` is of another length it stays: no public function has a condition on its values (docs/DECISIONS.md).
 #[tactic(auto, unfolding(crate::specs::Bits::with_numbers, crate::specs::Bits::numbers_of))]
 pub fn numbers_of(bits: &[u64], out: &mut [f64])
     ensures { out.new ≡ with_numbers bits.now out.old }

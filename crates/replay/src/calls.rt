@@ -25,7 +25,7 @@ fn run_calls(run: &mut [f64], kinds: &[Kind], bits: &[u64], answers: &[u8]) -> T
     tally
 }
 
-// A sheet and its answers, as many as it has calls.
+// A sheet and its answers, as many as it has calls. Three arrays of the most, since `read_sheet` writes into lent runs.
 fn replay_sheet(rt: &impl Print, name: &str, sheet: &[u8], answers: &[u8]) -> io::Result<Tally> {
     let mut filter = [0; FILTER_LENGTH];
     let mut kinds = [Kind::State; MOST_CALLS];

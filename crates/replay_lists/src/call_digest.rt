@@ -34,7 +34,8 @@ pub(crate) struct Stored {
 }
 
 impl Stored {
-    // The answer in the 32 bytes from a place on: a run and a place, since an answer follows the numbers of its call in one record.
+    // The answer in the 32 bytes from a place on: a run and a place, since an answer follows the numbers of its call in one record. No `From` for the
+    // four numbers: this is their one use.
     pub(crate) fn at(s: &[u8], at: usize) -> Stored {
         let [code, nis, more, filter]: [u64; 4] = bits_at(s, at);
         Stored {

@@ -167,7 +167,7 @@ pub fn unread(rt: &impl Print, name: impl AsBytes + Drop) -> io::Result<Tally> {
     Ok(Tally::default())
 }
 
-// A line of a list: its name, and what is said of it.
+// A line of a list: its name, and what is said of it. A name is bytes, which no format takes.
 pub(crate) fn print_line(
     rt: &impl Print,
     name: impl AsBytes + Drop,

@@ -173,7 +173,7 @@ fn print_count(rt: &impl Print, name: &str, count: io::Result<usize>) -> io::Res
     println!(rt; "{name}: {n} bytes")
 }
 
-// How many bytes count of a file of LONG bytes in the run that is lent.
+// How many bytes count of a file of LONG bytes in the run that is lent: it is `read_file` that is tried here, in runs of several lengths.
 fn long_file<R: Files + Print>(rt: &R, name: &str, bytes: &mut [u8]) -> io::Result<()> {
     let count = read_file(rt, b"long.bin", bytes);
     print_count(rt, name, count)

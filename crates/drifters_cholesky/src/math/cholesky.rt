@@ -10,7 +10,7 @@ use drifters_real::math::real::{is_finite, sqrt};
 // The lower factor of the n by n matrix `a`, of which the lower triangle is read, into `l`, which is all zeros. False at the first
 // bad pivot: one that is not finite, or at most 0.
 // The labelled loops by index, left from inside, are the form that document 01 names for the factorisation (docs/DECISIONS.md, 'Document 01's forms'):
-// what they leave is a flag, of which `new` makes the Option.
+// a `break` out of a `for` gives no value, so what they leave is a flag, of which `new` makes the Option.
 fn cholesky_into(a: &[f64], l: &mut [f64], n: usize) -> bool
     requires { (length a.now ≡ n * n) × (l.old ≡ zeros (n * n)) }
     ensures { cholesky n a.now ≡ cond result (lower l.new) none }

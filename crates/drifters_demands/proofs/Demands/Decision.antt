@@ -1,6 +1,6 @@
 -- What the checks of a call and of a start decide, one after the other. Assumes nothing.
 use mathlib.Core.Path.{◌≡◌, refl, sym, ap, ◌∙◌}
-use mathlib.Core.Bool.{Bool, true, false, not, ◌&&◌, cond, true≢false, and-true, and-eq-true_iff}
+use mathlib.Core.Bool.{Bool, true, false, not, ◌&&◌, cond, true≢false, and-true}
 use mathlib.Core.List.{List, [], ◌∷◌}
 use Prim.Native.Nat.{ℕ, suc}
 use native.Mathlib.Nat.{suc-ne-zero}
@@ -8,6 +8,8 @@ use borrow.Author.Tests.{eqb-true}
 use lib.Dec.{eqb}
 use lib.ListN.{length}
 use lib.Ieee.{Float}
+use Rattle.std.proofs.lemmas.List.{nil_from_length}
+use Rattle.std.proofs.lemmas.Bool.{and_parts}
 use Rattle.drifters_real.specs.Real.{is_finite}
 use Rattle.drifters_matrix.specs.Matrix.{all_finite}
 use Rattle.drifters_eqf.specs.Answer.{Answer, Nis, Fine, Refused, range_refusal, null_refusal, number_of, values_of}
@@ -21,7 +23,6 @@ use Rattle.drifters_demands.specs.Demands.{Check, unless, first_of, has_null, la
 use Rattle.drifters_eqf.specs.declared.filter.EqFilter.{EqFilter}
 use Rattle.drifters_kind.specs.declared.kind.Kind.{Kind}
 use Rattle.drifters_entry.proofs.KindLaws.{written_by, kind_laws}
-use Rattle.drifters_entry.proofs.Calls.{no_numbers}
 use Rattle.drifters_demands.proofs.Demands.Null.{Asks, AsksBy, call_asks}
 
 -- ---- decisions
@@ -78,7 +79,7 @@ module _ {run written : List Float} {result : Outcome} where
     number = decision_number v;
     refusal = decision_refusal v;
     accepted = λ z n q. decision_no_refusal v z n q;
-    finite = λ z. (and-eq-true_iff (all_finite (values_of o.answer o.written)) _).0 (decision_finite v z);
+    finite = λ z. and_parts (all_finite (values_of o.answer o.written)) _ (decision_finite v z);
   }
 
   -- a check in front of an outcome
@@ -119,7 +120,7 @@ request_decision (refusal n) f run written finite asks none = absurd asks
 request_decision (propagation u dt q) f run written finite asks none =
     check_answered 2 (turn_fits (half_step f u dt)) _ f
     (check_answered 2 (turn_fits (full_step f u dt)) _ f
-    (in_range_lem run written (accepted_outcome (propagation u dt q) f run written) (all_finite (to_run (propagated f u dt q))) refl (rw (no_numbers written none))))
+    (in_range_lem run written (accepted_outcome (propagation u dt q) f run written) (all_finite (to_run (propagated f u dt q))) refl (rw (nil_from_length written none))))
 request_decision (measurement w m noise alpha) f run written finite asks none =
     let c = m.output in
     let y = m.innovation in
@@ -155,10 +156,10 @@ unfolding call first_of
 call_decision kind run v written =
     check 0 (lengths_fit (form_of kind) run v (length written)) _ (λ fits.
     check 1 (all_finite run && all_finite v) _ (λ finite.
-    let runs = (and-eq-true_iff (eqb (length run) filter_length && eqb (length v) (call_length kind)) _).0 fits in
-    let l = eqb-true (length v) (call_length kind) ((and-eq-true_iff (eqb (length run) filter_length) _).0 runs.0).1 in
+    let runs = and_parts (eqb (length run) filter_length && eqb (length v) (call_length kind)) _ fits in
+    let l = eqb-true (length v) (call_length kind) (and_parts (eqb (length run) filter_length) _ runs.0).1 in
     let n = eqb-true (length written) (written_length kind) runs.1 in
-    let each = (and-eq-true_iff (all_finite run) _).0 finite in
+    let each = and_parts (all_finite run) _ finite in
     null_decision (has_null kind v) (request_of kind (from_run run) v) (from_run run) run written (call_asks kind (from_run run) v l each.1) (λ asks.
     request_decision (request_of kind (from_run run) v) (from_run run) run written each.0 asks (n ∙ (kind_laws kind).writes (from_run run) v))))
 

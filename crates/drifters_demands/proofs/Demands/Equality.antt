@@ -1,7 +1,7 @@
 -- Equality of numbers, runs and answers, and the relation of the half turn: what is equal to a run read through a turn is like that run, and back.
 -- Assumes nothing.
 use mathlib.Core.Path.{◌≡◌, refl, sym, ap, ◌∙◌, subst}
-use mathlib.Core.Bool.{Bool, true, false, true≢false}
+use mathlib.Core.Bool.{Bool, true, false, false≢true}
 use mathlib.Core.List.{List}
 use Prim.Native.Nat.{ℕ, zero, suc}
 use lib.ListN.{length, get_or}
@@ -19,16 +19,16 @@ use Rattle.drifters_demands.proofs.Signs.Layout.{Turned, length_turned, get_d_tu
 
 -- ---- numbers
 zero_is : (x : Float) → is_zero x ≡ true → unsigned_zero x ≡ fin_zero
-zero_is nan h = absurd (true≢false (sym h))
-zero_is (inf s) h = absurd (true≢false (sym h))
+zero_is nan h = absurd (false≢true h)
+zero_is (inf s) h = absurd (false≢true h)
 zero_is (fin s zero e) h = refl
-zero_is (fin s (suc m) e) h = absurd (true≢false (sym h))
+zero_is (fin s (suc m) e) h = absurd (false≢true h)
 
 nan_is : (x : Float) → is_nan x ≡ true → x ≡ nan
 unfolding is_nan
 nan_is nan h = refl
-nan_is (inf s) h = absurd (true≢false (sym h))
-nan_is (fin s m e) h = absurd (true≢false (sym h))
+nan_is (inf s) h = absurd (false≢true h)
+nan_is (fin s m e) h = absurd (false≢true h)
 
 pub same_of_equal : {x y : Float} → EqualNumber x y → unsigned_zero x ≡ unsigned_zero y
 same_of_equal (same_bits p) = ap unsigned_zero p

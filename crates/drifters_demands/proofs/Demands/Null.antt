@@ -1,7 +1,7 @@
 -- Which calls ask to be refused as null: those of finite numbers in which a vector to be normalised has norm 0. Assumes nothing.
 use Prim.Native.Nat.{ℕ, zero, suc, ◌+◌, ◌*◌, ◌^◌, ◌<◌}
 use mathlib.Core.Path.{◌≡◌, refl, sym, ap, ◌∙◌}
-use mathlib.Core.Bool.{Bool, true, false, not, cond, ◌||◌, true≢false}
+use mathlib.Core.Bool.{Bool, true, false, not, cond, ◌||◌, false≢true, true≢false}
 use mathlib.Core.List.{List}
 use native.Mathlib.Omega.{arith}
 use lib.Dec.{ltb, lit<, leb-suc-suc, leb-zero}
@@ -62,16 +62,16 @@ unfolding sum
 plus_sum a b c = plus_round (a + b) c
 
 plus_add : (x y : Float) → plus x ≡ true → plus y ≡ true → plus (x ⊕ y) ≡ true
-plus_add nan y h k = absurd (true≢false (sym h))
-plus_add (inf true) y h k = absurd (true≢false (sym h))
-plus_add (inf false) nan h k = absurd (true≢false (sym k))
-plus_add (inf false) (inf true) h k = absurd (true≢false (sym k))
+plus_add nan y h k = absurd (false≢true h)
+plus_add (inf true) y h k = absurd (false≢true h)
+plus_add (inf false) nan h k = absurd (false≢true k)
+plus_add (inf false) (inf true) h k = absurd (false≢true k)
 plus_add (inf false) (inf false) h k = unfold add in refl
 plus_add (inf false) (fin t n d) h k = unfold add in refl
-plus_add (fin true m e) y h k = absurd (true≢false (sym h))
-plus_add (fin false m e) nan h k = absurd (true≢false (sym k))
+plus_add (fin true m e) y h k = absurd (false≢true h)
+plus_add (fin false m e) nan h k = absurd (false≢true k)
 plus_add (fin false m e) (inf t) h k = unfold add in k
-plus_add (fin false m e) (fin true n d) h k = absurd (true≢false (sym k))
+plus_add (fin false m e) (fin true n d) h k = absurd (false≢true k)
 plus_add (fin false m e) (fin false n d) h k = rw add_fin (plus_sum (m * up e * down d) (n * up d * down e) (down e * down d))
 
 plus_sqrt : (x : Float) → plus x ≡ true → plus (sqrt x) ≡ true
@@ -80,15 +80,15 @@ plus_sqrt nan h = h
 plus_sqrt (inf true) h = h
 plus_sqrt (inf false) h = refl
 plus_sqrt (fin s zero e) h = h
-plus_sqrt (fin true (suc m) e) h = absurd (true≢false (sym h))
+plus_sqrt (fin true (suc m) e) h = absurd (false≢true h)
 plus_sqrt (fin false (suc m) e) h = plus_units _ _
 
 -- such a number is above 0 exactly where it is no zero
 plus_above : (x : Float) → plus x ≡ true → lt plus_zero x ≡ not (eq x plus_zero)
-plus_above nan h = absurd (true≢false (sym h))
-plus_above (inf true) h = absurd (true≢false (sym h))
+plus_above nan h = absurd (false≢true h)
+plus_above (inf true) h = absurd (false≢true h)
 plus_above (inf false) h = rw plus_zero_is (unfold lt eq in refl)
-plus_above (fin true m e) h = absurd (true≢false (sym h))
+plus_above (fin true m e) h = absurd (false≢true h)
 plus_above (fin false zero e) h = rw (eq_is_zero, plus_zero_is) (lt_zero_fin_l false false (pos 0) e 0)
 plus_above (fin false (suc m) e) h = rw (eq_is_zero, plus_zero_is) (lt_zero_fin_l false false (pos 0) e (suc m) ∙ leb-suc-suc 0 m ∙ leb-zero m)
 

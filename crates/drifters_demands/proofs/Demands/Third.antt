@@ -5,7 +5,6 @@ use Prim.Native.Nat.{ℕ}
 use borrow.Author.Tests.{lt-ltb}
 use lib.ListN.{length, length-replicate}
 use lib.Ieee.{Float}
-use Rattle.drifters_real.specs.Scalar.{plus_zero}
 use Rattle.drifters_matrix.specs.Matrix.{zeros}
 use Rattle.drifters_eqf.specs.Filter.{nav_state}
 use Rattle.drifters_entry.specs.Layout.{from_run}
@@ -26,18 +25,15 @@ use Rattle.drifters_demands.proofs.Demands.Decision.{Decision, refuses, accepts,
 use Rattle.drifters_demands.proofs.Demands.Equality.{turned_equal, equal_turned, equal_answer}
 
 -- ---- how many numbers a call of a log writes
-length_zeros : (n : ℕ) → length (zeros n) ≡ n
-length_zeros n = length-replicate n plus_zero
-
 accepted_size : (r : Request) (f : EqFilter) (run : List Float) (n : ℕ) → n ≡ written_by r → length (accepted_outcome r f run (zeros n)).written ≡ n
-accepted_size (refusal k) f run n e = length_zeros n
-accepted_size (propagation u dt q) f run n e = length_zeros n
-accepted_size (measurement w m noise alpha) f run n e = length_zeros n
+accepted_size (refusal k) f run n e = length-replicate n _
+accepted_size (propagation u dt q) f run n e = length-replicate n _
+accepted_size (measurement w m noise alpha) f run n e = length-replicate n _
 accepted_size estimate f run n e = length_state_to_run (nav_state f) (sized_nav_state f) ∙ sym e
 
 decided_size : (kind : Kind) (run v : List Float) {first : ℕ} {o : Outcome}
     → Decision run (zeros (written_length kind)) (accepted_call kind run v (zeros (written_length kind))) first o → length o.written ≡ written_length kind
-decided_size kind run v (refuses n) = length_zeros (written_length kind)
+decided_size kind run v (refuses n) = length-replicate (written_length kind) _
 decided_size kind run v (accepts h e) =
     accepted_size (request_of kind (from_run run) v) (from_run run) run (written_length kind) ((kind_laws kind).writes (from_run run) v)
 

@@ -5,18 +5,20 @@ use mathlib.Core.Logic.{⊎_elim}
 use Prim.Native.Nat.{ℕ, zero, suc, ◌+◌, ◌-◌, ◌*◌, ◌≤◌, ◌<◌}
 use native.Mathlib.Nat.{le_refl, lt_irrefl, eq-or-lt_of_le, le_of_suc-le-suc}
 use native.Mathlib.Omega.{arith}
-use mathlib.Core.Bool.{Bool, true, false, not, ◌||◌, true≢false}
+use mathlib.Core.Bool.{Bool, true, false, not, ◌||◌}
 use borrow.Author.Tests.{eqb-true, eqb-false}
 use lib.Dec.{eqb}
 use lib.ListN.{length, set, length-set, length-replicate}
 use lib.Seq.{get_or-set_same, get_or-set_other}
 use lib.Ieee.{Float, nan, unlike, le}
+use Rattle.std.proofs.lemmas.Nat.{same_from_place}
+use Rattle.std.proofs.lemmas.Bool.{or_parts}
 use Rattle.drifters_real.specs.Scalar.{plus_zero}
 use Rattle.drifters_real.specs.Real.{sqrt, is_finite}
 use Rattle.drifters_matrix.specs.Matrix.{at}
 use Rattle.drifters_cholesky.specs.Cholesky.{Factor, none, lower, bad_pivot, reduced, factor_entry, factor_columns, factor_rows, cholesky, set_row, substituted, forward, back, solve}
 use Rattle.drifters_demands.specs.Like.{Like, LikeMatrix}
-use Rattle.drifters_matrix.proofs.Matrix.Grid.{at_in, same_place}
+use Rattle.drifters_matrix.proofs.Matrix.Grid.{at_in}
 use Rattle.drifters_demands.proofs.Signs.Sign.{unlike_same, unlike_comm, signs}
 use Rattle.drifters_demands.proofs.Signs.Like.{cond_keeps, cond_keeps_same, like_as, like_refl}
 use Rattle.drifters_demands.proofs.Signs.Ops.{like_mul_as, like_div_equal}
@@ -46,7 +48,7 @@ module _ (n i j : ℕ) (I : i < n) (J : j < n) (l : List Float) (size : length l
   stored = get_or-set_same l (i * n + j) v nan (rw size (at_in i j n n I J))
 
   not_stored : (p q : ℕ) → q < n → ((p ≡ i) × (q ≡ j) → ⊥) → at n (set l (i * n + j) v) p q ≡ at n l p q
-  not_stored p q Q differ = get_or-set_other l (i * n + j) (p * n + q) v nan (λ e. differ (same_place p q i j n Q J e))
+  not_stored p q Q differ = get_or-set_other l (i * n + j) (p * n + q) v nan (λ e. differ (same_from_place p q i j n Q J e))
 
 module _ {σ : ℕ → Bool} {n i : ℕ} {l l' : List Float} (h : LikeSizedLower σ n i l l') (j : ℕ) (I : i < n) (J : j < n) where
   store_alike : {v v' : Float} → Like (unlike (σ i) (σ j)) v v' → LikeMatrix σ σ n n (set l (i * n + j) v) (set l' (i * n + j) v')
@@ -98,16 +100,12 @@ store_pivot {σ} {n} {i} {l} {l'} h I {v} {v'} e = record {
 }
 
 -- ---- the factorisation
-or_false_r : (p q : Bool) → (p || q) ≡ false → q ≡ false
-or_false_r true q e = absurd (true≢false e)
-or_false_r false q e = e
-
 pub like_bad_pivot : {x x' : Float} → Like false x x' → bad_pivot x ≡ bad_pivot x'
 like_bad_pivot h = ap₂ (λ p q. not p || q) (like_is_finite h) (like_le h (like_refl {x = plus_zero}))
 
 -- two pivots that are alike and not bad are the same
 pub like_good_pivot : {x x' : Float} → Like false x x' → bad_pivot x ≡ false → x ≡ x'
-like_good_pivot {x} h e = like_not_le_zero h (or_false_r (not (is_finite x)) (le x plus_zero) e)
+like_good_pivot {x} h e = like_not_le_zero h (or_parts (not (is_finite x)) (le x plus_zero) e).1
 
 -- the entries left of the diagonal are divided by a pivot that is there already; one more pivot is made at the row's end
 module _ {σ : ℕ → Bool} {n : ℕ} {a a' : List Float} (A : LikeMatrix σ σ n n a a') where

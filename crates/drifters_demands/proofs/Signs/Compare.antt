@@ -1,13 +1,14 @@
 -- Comparisons under `Like`: both zeros count as one, so they take no notice of which stands there. Assumes nothing.
-use mathlib.Core.Path.{◌≡◌, refl, sym, ap, ap₂, ◌∙◌}
+use mathlib.Core.Path.{◌≡◌, refl, sym, ap₂, ◌∙◌}
 use Prim.Native.Nat.{ℕ, zero, suc, ◌*◌}
 use native.Mathlib.Nat.{zero-mul, mul-pos, zero-lt-suc, zero-add, add-zero, ne_of_lt}
 use mathlib.Core.Bool.{Bool, true, false, not, ◌&&◌, ◌||◌, beq, or-true, and-true}
 use lib.IntN.{ℤ, pos}
 use borrow.Author.Tests.{both_ways, lt-ltb, ne_eqb}
-use lib.Dec.{T, ltb, eqb, leb-suc-zero, eqb-suc-zero, eqb-zero-suc, eqb-suc-suc, eqb→eq}
+use lib.Dec.{ltb, eqb, leb-suc-zero, eqb-zero-suc}
 use lib.Ieee.{Float, nan, inf, fin, up, down, neg, lt, le, eq, below, level, of_bits}
 use lib.Ieee.Fits.{up_pos, down_pos}
+use Rattle.std.proofs.lemmas.Float.{floats_per}
 use Rattle.drifters_real.specs.Scalar.{plus_zero}
 use Rattle.drifters_demands.specs.Like.{Like}
 use Rattle.drifters_real.proofs.Real.Zeros.{plus_zero_is}
@@ -62,13 +63,7 @@ eq_zero_fin_l s t e d n = rw (eq_fin, zero-mul, zero-mul, or-true, and-true, eqb
 eq_zero_l : (y : Float) (s : Bool) (e : ℤ) → eq (fin s 0 e) y ≡ eq fin_zero y
 eq_zero_l = zero_alike eq (λ s e. unfold eq in refl) (λ s t e. unfold eq in refl) eq_zero_fin_l
 
--- ---- where both are negated equality stays, and it is symmetric
-eq_nan : (x : Float) → eq x nan ≡ false
-unfolding eq
-eq_nan nan = refl
-eq_nan (inf s) = refl
-eq_nan (fin s m e) = refl
-
+-- ---- where both are negated equality stays
 beq_not : (s t : Bool) → beq (not s) (not t) ≡ beq s t
 beq_not true true = refl
 beq_not true false = refl
@@ -84,43 +79,15 @@ eq_neg (fin s m e) nan = unfold neg eq in refl
 eq_neg (fin s m e) (inf t) = unfold neg eq in refl
 eq_neg (fin s m e) (fin t n d) = unfold neg eq in rw beq_not
 
-eqb_comm : (a b : ℕ) → eqb a b ≡ eqb b a
-eqb_comm zero zero = refl
-eqb_comm zero (suc b) = eqb-zero-suc b ∙ sym (eqb-suc-zero b)
-eqb_comm (suc a) zero = eqb-suc-zero a ∙ sym (eqb-zero-suc a)
-eqb_comm (suc a) (suc b) = eqb-suc-suc a b ∙ eqb_comm a b ∙ sym (eqb-suc-suc b a)
-
-beq_comm : (s t : Bool) → beq s t ≡ beq t s
-beq_comm true true = refl
-beq_comm true false = refl
-beq_comm false true = refl
-beq_comm false false = refl
-
-level_comm : (s t : Bool) (a b : ℕ) → level s a t b ≡ level t b s a
-level_comm s t a b = go (eqb a b) (eqb→eq a b) ∙ ap (λ p. p && (beq t s || eqb b 0)) (eqb_comm a b)
-  where
-    go : (p : Bool) → (T p → a ≡ b) → (p && (beq s t || eqb a 0)) ≡ (p && (beq t s || eqb b 0))
-    go true h = rw (h tt, beq_comm)
-    go false h = refl
-
-pub eq_comm : (x y : Float) → eq x y ≡ eq y x
-eq_comm nan y = unfold eq in sym (eq_nan y)
-eq_comm (inf s) nan = unfold eq in refl
-eq_comm (inf s) (inf t) = unfold eq in beq_comm s t
-eq_comm (inf s) (fin t n d) = unfold eq in refl
-eq_comm (fin s m e) nan = unfold eq in refl
-eq_comm (fin s m e) (inf t) = unfold eq in refl
-eq_comm (fin s m e) (fin t n d) = unfold eq in level_comm s t (m * up e * down d) (n * up d * down e)
-
 eq_zero_r : (x : Float) (s : Bool) (e : ℤ) → eq x (fin s 0 e) ≡ eq x fin_zero
-eq_zero_r x s e = eq_comm x (fin s 0 e) ∙ eq_zero_l x s e ∙ eq_comm fin_zero x
+eq_zero_r x s e = floats_per.symm x (fin s 0 e) ∙ eq_zero_l x s e ∙ floats_per.symm fin_zero x
 
 -- what is equal to +0.0 is a zero
 pub eq_is_zero : (x : Float) → eq x plus_zero ≡ is_zero x
 eq_is_zero nan = unfold eq in refl
 eq_is_zero (inf s) = rw plus_zero_is (unfold eq in refl)
 eq_is_zero (fin s zero e) = rw plus_zero_is (eq_zero_fin_l s false e (pos 0) 0)
-eq_is_zero (fin s (suc m) e) = rw plus_zero_is (eq_comm (fin s (suc m) e) fin_zero ∙ eq_zero_fin_l false s (pos 0) e (suc m) ∙ eqb-zero-suc m)
+eq_is_zero (fin s (suc m) e) = rw plus_zero_is (floats_per.symm (fin s (suc m) e) fin_zero ∙ eq_zero_fin_l false s (pos 0) e (suc m) ∙ eqb-zero-suc m)
 
 -- ---- the laws
 pub like_lt : {x x' y y' : Float} → Like false x x' → Like false y y' → lt x y ≡ lt x' y'

@@ -2,7 +2,7 @@
 use Prim.Native.Nat.{ℕ, ◌+◌, ◌*◌, ◌<◌}
 use native.Mathlib.Omega.{arith}
 use mathlib.Core.Path.{◌≡◌, refl, sym, ap, ap₂, ◌∙◌, subst, subst₂}
-use mathlib.Core.Bool.{Bool, true, false, ◌&&◌, and-eq-true_iff, not-not}
+use mathlib.Core.Bool.{Bool, true, false, ◌&&◌, not-not}
 use mathlib.Core.List.{List}
 use borrow.Author.Tests.{eqb-true}
 use lib.Dec.{eqb, lit<}
@@ -10,6 +10,7 @@ use lib.ListN.{length, take, drop, length-replicate, get_or-replicate}
 use lib.Seq.{get_or-take, get_or-drop, drop-drop}
 use lib.Ieee.{Float, nan}
 use Rattle.std.specs.Prelude.{Option}
+use Rattle.std.proofs.lemmas.Bool.{and_parts}
 use Rattle.drifters_real.specs.Scalar.{plus_zero}
 use Rattle.drifters_matrix.specs.Matrix.{all_finite, zeros}
 use Rattle.drifters_demands.specs.Like.{Like, Signs, axis, LikeList, LikeVec3, LikeMatrix, no_turn}
@@ -231,7 +232,7 @@ like_call {s} {σ} {run} {run'} {v} {w} {written} {written'} kind agrees R N W =
     lengths e =
         let p = eqb (length run) filter_length in
         let q = eqb (length v) (call_length kind) in
-        let r = (and-eq-true_iff p q).0 ((and-eq-true_iff (p && q) (eqb (length written) (written_length kind))).0 e).0 in
+        let r = and_parts p q (and_parts (p && q) (eqb (length written) (written_length kind)) e).0 in
         (eqb-true (length run) filter_length r.0, eqb-true (length v) (call_length kind) r.1)
 
     -- the numbers that the kind has take its signs

@@ -9,9 +9,10 @@ use lib.Dec.{ltb, lit<}
 use lib.ListN.{length, get_or, take, drop}
 use lib.Seq.{get_or-take, get_or-drop, drop-drop}
 use lib.Ieee.{Float, nan, unlike}
+use Rattle.std.proofs.lemmas.Nat.{div-mul-add, mod-mul-add}
 use Rattle.drifters_demands.specs.Like.{signed, Like, Signs, axis, LikeList, LikeVec3, LikeMatrix, no_turn}
 use Rattle.drifters_matrix.proofs.Matrix.Tab.{length_tab, get_d_tab}
-use Rattle.drifters_matrix.proofs.Matrix.Grid.{at_in, div_at, mod_at}
+use Rattle.drifters_matrix.proofs.Matrix.Grid.{at_in}
 use Rattle.drifters_demands.proofs.Signs.Sign.{axis_add}
 use Rattle.drifters_demands.proofs.Signs.Like.{like_as}
 use Rattle.drifters_demands.proofs.Signs.Matrix.{like_flat, like_matrix_as}
@@ -82,7 +83,7 @@ module _ (σ τ : ℕ → Bool) (r c : ℕ) {a b : List Float} where
     entry = λ i j I J.
         let K : i * c + j < r * c = at_in i j r c I J in
         rw (get_or-take (r * c) a (i * c + j) nan K, get_or-take (r * c) b (i * c + j) nan K)
-        (like_as (ap₂ (λ p q. unlike (σ p) (τ q)) (div_at i j c J) (mod_at i j c J)) (h.entry (i * c + j) K));
+        (like_as (ap₂ (λ p q. unlike (σ p) (τ q)) (div-mul-add i c j J) (mod-mul-add i c j J)) (h.entry (i * c + j) K));
   }
 
   pub like_of_part : LikeMatrix σ τ r c (take (r * c) a) (take (r * c) b) → LikeList (matrix_signs c σ τ) (r * c) a b

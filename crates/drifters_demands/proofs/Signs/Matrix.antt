@@ -5,11 +5,12 @@ use mathlib.Core.Logic.{⊎_elim}
 use Prim.Native.Nat.{ℕ, zero, suc, ◌+◌, ◌-◌, ◌*◌, ◌/◌, ◌%◌, ◌≤◌, ◌<◌}
 use native.Mathlib.Nat.{zero-lt-suc, not-suc-le-zero, le_refl, le_step, eq-zero-or-pos, mul-zero, div-lt_iff_lt-mul, mod-lt, div-add-mod'}
 use native.Mathlib.Omega.{arith}
-use mathlib.Core.Bool.{Bool, true, false, ◌&&◌, and-eq-true_iff}
+use mathlib.Core.Bool.{Bool, true, false, ◌&&◌}
 use borrow.Author.Tests.{leb-true, ltb-true, eqb-true}
 use lib.Dec.{eqb, leb, ltb, lit<}
 use lib.ListN.{length, get_or, replicate, get_or-replicate}
 use lib.Ieee.{Float, nan, unlike, eq}
+use Rattle.std.proofs.lemmas.Bool.{and_parts}
 use Rattle.drifters_real.specs.Scalar.{◌⊗◌, plus_zero, one}
 use Rattle.drifters_real.specs.Real.{is_finite}
 use Rattle.drifters_matrix.specs.Matrix.{tab, matrix, zeros, transpose, sum_terms, matmul, mul_transpose, scaled, block_fits, in_block, set_block, all_finite, larger, from_diagonal, identity, mean, symmetrize, add_matrix, sub_matrix, neg_matrix}
@@ -125,7 +126,7 @@ like_mul_transpose {c} h k =
 -- a place within a block, counted from its corner
 within : (b o i : ℕ) → (leb o i && ltb i (o + b)) ≡ true → (i - o < b) × (o + (i - o) ≡ i)
 within b o i e =
-    let both = (and-eq-true_iff (leb o i) (ltb i (o + b))).0 e in
+    let both = and_parts (leb o i) (ltb i (o + b)) e in
     let p : o ≤ i = leb-true o i both.0 in
     let q : i < o + b = ltb-true i (o + b) both.1 in
     (omega arith, omega arith)
@@ -140,7 +141,7 @@ like_set_block {σ} {τ} {r} {c} {br} {bc} r0 c0 h k =
     (λ i j I J.
     cond_keeps_same (Like _) (in_block br bc r0 c0 i j)
     (λ e.
-    let both = (and-eq-true_iff (leb r0 i && ltb i (r0 + br)) (leb c0 j && ltb j (c0 + bc))).0 e in
+    let both = and_parts (leb r0 i && ltb i (r0 + br)) (leb c0 j && ltb j (c0 + bc)) e in
     let p = within br r0 i both.0 in
     let q = within bc c0 j both.1 in
     like_as (ap₂ (λ m n. unlike (σ m) (τ n)) p.1 q.1) (k.entry (i - r0) (j - c0) p.0 q.0))

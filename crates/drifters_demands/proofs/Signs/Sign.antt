@@ -5,6 +5,7 @@ use Prim.Native.Nat.{ℕ, zero, suc, ◌+◌, ◌*◌}
 use native.Mathlib.Nat.{zero-add}
 use native.Mathlib.Omega.{arith}
 use lib.Ieee.{unlike}
+use Rattle.std.specs.Cmp.{bool_eq_equiv}
 use Rattle.drifters_demands.specs.Like.{Signs, axis}
 
 pub unlike_same : (s : Bool) → unlike s s ≡ false
@@ -36,10 +37,7 @@ unlike_not false true = refl
 unlike_not false false = refl
 
 pub unlike_comm : (s t : Bool) → unlike s t ≡ unlike t s
-unlike_comm true true = refl
-unlike_comm true false = refl
-unlike_comm false true = refl
-unlike_comm false false = refl
+unlike_comm s t = ap not (bool_eq_equiv.symm s t)
 
 pub unlike_cancel : (s t : Bool) → unlike s (unlike s t) ≡ t
 unlike_cancel true true = refl

@@ -1,10 +1,10 @@
 -- The laws of a block within a matrix, and what the loops of `set_block_in` keep. Assumes nothing.
 use mathlib.Core.Path.{◌≡◌, refl, sym, ap, ap₂, ◌∙◌}
-use mathlib.Core.Bool.{Bool, true, false, true≢false, ◌&&◌, cond}
+use mathlib.Core.Bool.{Bool, true, false, true≢false, ◌&&◌, cond, and-eq-true_iff}
 use mathlib.Core.List.{List}
 use mathlib.Core.Logic.{⊎_elim}
 use Prim.Native.Nat.{ℕ, ◌+◌, ◌-◌, ◌*◌, ◌≤◌, ◌<◌}
-use native.Mathlib.Nat.{eq-or-lt_of_le, add-sub_of_le, add-zero, add_assoc}
+use native.Mathlib.Nat.{eq-or-lt_of_le, add-sub_of_le, add-zero, add_assoc, add-sub_cancel_left}
 use native.Mathlib.Omega.{arith}
 use borrow.Author.Tests.{leb-true, ltb-true, le-leb, lt-ltb}
 use lib.Dec.{leb, ltb}
@@ -15,11 +15,6 @@ use lib.Ieee.{Float, nan}
 use Rattle.drifters_matrix.specs.Matrix.{at, matrix, zeros, block_fits, in_block, set_block, block}
 use Rattle.std.proofs.lemmas.Slice.{drop-put_mid}
 use Rattle.drifters_matrix.proofs.Matrix.Grid.{row_in, lt_or_le, matrix_is}
-use Rattle.drifters_matrix.proofs.Matrix.RowStart.{part_size}
-
-both : (a b : Bool) → a && b ≡ true → (a ≡ true) × (b ≡ true)
-both true b e = (refl, e)
-both false b e = absurd (true≢false (sym e))
 
 -- the tests of the rows and of the columns, joined
 pub fits_tested : {x y p q t : Bool} → x ≡ p → y ≡ q → x && y ≡ t → p && q ≡ t
@@ -30,7 +25,7 @@ fits r c br bc r0 c0 h k = ap₂ (λ (p q : Bool). p && q) (le-leb (r0 + br) r h
 
 pub block_fits_lem : (r c br bc r0 c0 : ℕ) → block_fits r c br bc r0 c0 ≡ true → (r0 + br ≤ r) × (c0 + bc ≤ c)
 block_fits_lem r c br bc r0 c0 e =
-    let z = both (leb (r0 + br) r) (leb (c0 + bc) c) e in
+    let z = (and-eq-true_iff (leb (r0 + br) r) (leb (c0 + bc) c)).0 e in
     (leb-true (r0 + br) r z.0, leb-true (c0 + bc) c z.1)
 
 -- what `in_block` says
@@ -40,9 +35,9 @@ in_block_lem br bc r0 c0 i j h k =
 
 from_block : (br bc r0 c0 p q : ℕ) → in_block br bc r0 c0 p q ≡ true → ((r0 ≤ p) × (p < r0 + br)) × ((c0 ≤ q) × (q < c0 + bc))
 from_block br bc r0 c0 p q e =
-    let z = both (leb r0 p && ltb p (r0 + br)) (leb c0 q && ltb q (c0 + bc)) e in
-    let y = both (leb r0 p) (ltb p (r0 + br)) z.0 in
-    let x = both (leb c0 q) (ltb q (c0 + bc)) z.1 in
+    let z = (and-eq-true_iff (leb r0 p && ltb p (r0 + br)) (leb c0 q && ltb q (c0 + bc))).0 e in
+    let y = (and-eq-true_iff (leb r0 p) (ltb p (r0 + br))).0 z.0 in
+    let x = (and-eq-true_iff (leb c0 q) (ltb q (c0 + bc))).0 z.1 in
     ((leb-true r0 p y.0, ltb-true p (r0 + br) y.1), (leb-true c0 q x.0, ltb-true q (c0 + bc) x.1))
 
 -- `block`, where the block fits and where it does not
@@ -83,7 +78,7 @@ module _ {c br bc r0 c0 : ℕ} {src o : List Float} where
   pub stored_row : {i : ℕ} {m y : List Float} → BlockStored c br bc r0 c0 src o i m → i < br → c0 + bc ≤ c → (r0 + i) * c + c ≤ length m → i * bc + bc ≤ length src → y ≡ take (i * bc + bc - i * bc) (drop (i * bc) src) →
       BlockStored c br bc r0 c0 src o (i + 1) (put_mid ((r0 + i) * c + c0) ((r0 + i) * c + c0 + bc - ((r0 + i) * c + c0)) m y)
   stored_row {i} {m} {y} w h b s l e =
-      rw (part_size ((r0 + i) * c + c0) bc) record {
+      rw (add-sub_cancel_left ((r0 + i) * c + c0) bc) record {
         done = λ p q a d. ⊎_elim
             (λ (z : p ≡ i). rw z (here q d))
             (λ (z : p < i).
@@ -104,7 +99,7 @@ module _ {c br bc r0 c0 : ℕ} {src o : List Float} where
       start = (r0 + i) * c + c0
 
       row : y ≡ take bc (drop (i * bc) src)
-      row = rw part_size at e
+      row = rw add-sub_cancel_left at e
 
       size : length y ≡ bc
       size = rw (row, length-take, length-drop) (omega arith)

@@ -13,16 +13,12 @@ use lib.Ieee.{Float, nan}
 use Rattle.drifters_real.specs.Scalar.{plus_zero}
 use Rattle.drifters_matrix.specs.Matrix.{tab, at, matrix, zeros, in_block, set_block, from_columns}
 use Rattle.drifters_matrix.proofs.Matrix.Tab.{get_d_tab}
-use Rattle.drifters_matrix.proofs.Matrix.Grid.{at_in, length_matrix, entry, lt_or_le, matrix_is}
+use Rattle.drifters_matrix.proofs.Matrix.Grid.{at_in, entry, lt_or_le, matrix_is, matrix_ext}
 use Rattle.drifters_matrix.proofs.Matrix.Block.{fits, set_is}
 
 -- the first k columns are those of `cols`, the others zeros
 abbrev pub first_columns : (r c k : ℕ) → (ℕ → List Float) → List Float
 first_columns r c k cols = matrix r c (λ i j. cond (ltb j k) (get_or (cols j) i nan) plus_zero)
-
--- matrices of equal entries
-same_entries : (r c : ℕ) (f g : ℕ → ℕ → Float) → ((i j : ℕ) → i < r → j < c → f i j ≡ g i j) → matrix r c f ≡ matrix r c g
-same_entries r c f g h = matrix_is r c g (matrix r c f) (length_matrix r c f) (λ i j a b. entry r c f i j a b ∙ h i j a b)
 
 -- before the first step
 pub no_columns : (r c : ℕ) (cols : ℕ → List Float) → zeros (r * c) ≡ first_columns r c 0 cols
@@ -35,7 +31,7 @@ pub next_column : (r c k : ℕ) (cols : ℕ → List Float) → k < c →
     set_block r c r 1 0 k (first_columns r c k cols) (cols k) ≡ first_columns r c (k + 1) cols
 next_column r c k cols l =
     sym (set_is r c r 1 0 k (first_columns r c k cols) (cols k) true (fits r c r 1 0 k (omega arith) (omega arith)))
-    ∙ same_entries r c _ _
+    ∙ matrix_ext r c _ _
     (λ i j a b. ap (cond (in_block r 1 0 k i j) (at 1 (cols k) (i - 0) (j - k))) (entry r c (early k) i j a b) ∙ at_column i j a)
   where
     early : ℕ → ℕ → ℕ → Float
@@ -56,9 +52,9 @@ next_column r c k cols l =
 
 -- after the last step
 pub all_columns : (r c : ℕ) (cols : ℕ → List Float) → first_columns r c c cols ≡ matrix r c (λ i j. get_or (cols j) i nan)
-all_columns r c cols = same_entries r c _ _ (λ i j h k. rw (lt-ltb j c k))
+all_columns r c cols = matrix_ext r c _ _ (λ i j h k. rw (lt-ltb j c k))
 
 -- the matrix of the columns f 0, f 1, .., f (c - 1)
 pub columns_are : (r c : ℕ) {columns : List (List Float)} (f : ℕ → List Float) → columns ≡ tab c f → from_columns r c columns ≡ matrix r c (λ i j. get_or (f j) i nan)
 unfolding from_columns
-columns_are r c f e = same_entries r c _ _ (λ i j h k. ap (λ l. get_or l i nan) (ap (λ m. get_or m j []) e ∙ get_d_tab c f j [] k))
+columns_are r c f e = matrix_ext r c _ _ (λ i j h k. ap (λ l. get_or l i nan) (ap (λ m. get_or m j []) e ∙ get_d_tab c f j [] k))

@@ -4,15 +4,16 @@ use mathlib.Core.Bool.{Bool, true, false}
 use mathlib.Core.List.{List}
 use mathlib.Core.Logic.{◌⊎◌, inl, inr, ⊎_elim}
 use Prim.Native.Nat.{ℕ, ◌+◌, ◌*◌, ◌/◌, ◌%◌, ◌≤◌, ◌<◌}
-use native.Mathlib.Nat.{eq-zero-or-pos, mul-zero, not-suc-le-zero, add_assoc, zero-mul, mul-le-mul_right, mul-add-div_right, mul-add-mod_self_right, mod-eq_of_lt, div-eq_of_lt, add-zero, suc-mul, div-lt_iff_lt-mul, mod-lt, div-add-mod'}
+use native.Mathlib.Nat.{eq-zero-or-pos, mul-zero, not-suc-le-zero, add_assoc, zero-mul, mul-le-mul_right, add-zero, suc-mul, div-lt_iff_lt-mul, mod-lt, div-add-mod'}
 use native.Mathlib.Numerals.{add-one}
 use native.Mathlib.Omega.{arith}
 use borrow.Author.Tests.{ltb-true, ltb-false}
 use lib.Dec.{ltb}
 use lib.Ieee.{Float, nan}
 use lib.ListN.{length, get_or, set}
+use Rattle.std.proofs.lemmas.Nat.{div-mul-add, mod-mul-add}
 use Rattle.drifters_matrix.specs.Matrix.{tab, matrix, at}
-use Rattle.drifters_matrix.proofs.Matrix.Tab.{Filled, filled_none, filled_set, get_d_tab, length_tab, tab_is, front, front_zero, step_done}
+use Rattle.drifters_matrix.proofs.Matrix.Tab.{Filled, filled_set, get_d_tab, length_tab, tab_is, front, front_zero, step_done}
 
 -- row i of r rows of c lies within r * c
 pub row_in : (i r c : ℕ) → i < r → i * c + c ≤ r * c
@@ -20,12 +21,6 @@ row_in i r c h = omega (arith, mul-le-mul_right c h, suc-mul i c)
 
 pub at_in : (i j r c : ℕ) → i < r → j < c → i * c + j < r * c
 at_in i j r c h k = omega (arith, row_in i r c h)
-
-pub div_at : (i j c : ℕ) → j < c → (i * c + j) / c ≡ i
-div_at i j c h = let z : 0 < c = omega arith in rw (mul-add-div_right z i j, div-eq_of_lt h) (add-zero i)
-
-pub mod_at : (i j c : ℕ) → j < c → (i * c + j) % c ≡ j
-mod_at i j c h = rw (mul-add-mod_self_right i c j) (mod-eq_of_lt h)
 
 pub length_matrix : (r c : ℕ) (f : ℕ → ℕ → Float) → length (matrix r c f) ≡ r * c
 unfolding matrix
@@ -35,7 +30,7 @@ length_matrix r c f = length_tab (r * c) (λ n. f (n / c) (n % c))
 pub entry : (r c : ℕ) (f : ℕ → ℕ → Float) (i j : ℕ) → i < r → j < c → get_or (matrix r c f) (i * c + j) nan ≡ f i j
 unfolding matrix
 entry r c f i j h k =
-    get_d_tab (r * c) (λ n. f (n / c) (n % c)) (i * c + j) nan (at_in i j r c h k) ∙ rw (div_at i j c k, mod_at i j c k)
+    get_d_tab (r * c) (λ n. f (n / c) (n % c)) (i * c + j) nan (at_in i j r c h k) ∙ rw (div-mul-add i c j k, mod-mul-add i c j k)
 
 -- a function of row and column as one of the place in the flat list
 abbrev pub by_row : ℕ → (ℕ → ℕ → Float) → ℕ → Float
@@ -56,27 +51,15 @@ rows_done f i r c o e h k = step_done (i * c) (by_row c f) o e (ap (λ (m : ℕ)
 pub record Entries (c : ℕ) (f : ℕ → ℕ → Float) (i j : ℕ) (l : List Float) : Type 0 where
   pub filled : Filled (i * c + j) (by_row c f) l
 
-pub entries_none : {c : ℕ} {f : ℕ → ℕ → Float} {l : List Float} → Entries c f 0 0 l
-entries_none {c} {f} {l} = record { filled = rw (zero-mul, add-zero) (filled_none (by_row c f) l) }
-
 pub entries_set : {c : ℕ} {f : ℕ → ℕ → Float} {i j : ℕ} {l : List Float} {v : Float} → Entries c f i j l → j < c → i * c + j < length l → v ≡ f i j →
     Entries c f i (j + 1) (set l (i * c + j) v)
 entries_set {c} {f} {i} {j} {l} {v} w h k e =
-    record { filled = rw (← add_assoc) (filled_set (i * c + j) (by_row c f) l v k (e ∙ sym (rw (div_at i j c h, mod_at i j c h))) w.filled) }
-
-pub entries_next : {c : ℕ} {f : ℕ → ℕ → Float} {i j : ℕ} {l : List Float} → Entries c f i j l → j ≡ c → Entries c f (i + 1) 0 l
-entries_next {c} {f} {i} {j} {l} w e =
-    record { filled = rw (add-zero, row_next) (subst (λ (m : ℕ). Filled (i * c + m) (by_row c f) l) e w.filled) }
+    record { filled = rw (← add_assoc) (filled_set (i * c + j) (by_row c f) l v k (e ∙ sym (rw (div-mul-add i c j h, mod-mul-add i c j h))) w.filled) }
 
 pub entries_done : {r c : ℕ} {f : ℕ → ℕ → Float} {i : ℕ} {l : List Float} → Entries c f i 0 l → i ≡ r → length l ≡ r * c → l ≡ matrix r c f
 unfolding matrix
 entries_done {r} {c} {f} {i} {l} w e h =
     tab_is l (r * c) (by_row c f) h (subst (λ (m : ℕ). Filled (m * c) (by_row c f) l) e (rw add-zero at w.filled))
-
--- equal places have equal rows and columns
-pub same_place : (p q i j c : ℕ) → q < c → j < c → p * c + q ≡ i * c + j → (p ≡ i) × (q ≡ j)
-same_place p q i j c h k e =
-    (sym (div_at p q c h) ∙ ap (λ (n : ℕ). n / c) e ∙ div_at i j c k, sym (mod_at p q c h) ∙ ap (λ (n : ℕ). n % c) e ∙ mod_at i j c k)
 
 pub lt_or_le : (a b : ℕ) → (a < b) ⊎ (b ≤ a)
 lt_or_le a b = go (ltb a b) refl
@@ -93,3 +76,7 @@ matrix_is r c f l e h =
     (λ k p.
     let z : 0 < c = ⊎_elim (λ (y : c ≡ 0). absurd (not-suc-le-zero (rw (mul-zero) at (rw y at p)))) (λ (y : 0 < c). y) (eq-zero-or-pos c) in
     ap (λ (m : ℕ). get_or l m nan) (sym (div-add-mod' k c)) ∙ h (k / c) (k % c) ((div-lt_iff_lt-mul z).1 p) (mod-lt k z))
+
+-- two matrices of equal entries
+pub matrix_ext : (r c : ℕ) (f g : ℕ → ℕ → Float) → ((i j : ℕ) → i < r → j < c → f i j ≡ g i j) → matrix r c f ≡ matrix r c g
+matrix_ext r c f g h = matrix_is r c g (matrix r c f) (length_matrix r c f) (λ i j p q. entry r c f i j p q ∙ h i j p q)

@@ -9,9 +9,10 @@ use borrow.Author.Tests.{lt-ltb, le-ltb}
 use lib.ListN.{length, set, length-set}
 use lib.Seq.{get_or-set_same, get_or-set_other}
 use lib.Ieee.{Float, nan}
+use Rattle.std.proofs.lemmas.Nat.{same_from_place}
 use Rattle.drifters_real.specs.Scalar.{◌⊕◌, ◌⊗◌, half}
 use Rattle.drifters_matrix.specs.Matrix.{at, mean, symmetrize}
-use Rattle.drifters_matrix.proofs.Matrix.Grid.{at_in, row_next, same_place, lt_or_le, matrix_is}
+use Rattle.drifters_matrix.proofs.Matrix.Grid.{at_in, row_next, lt_or_le, matrix_is}
 
 -- l is o with each pair before place t replaced by its mean in o
 pub record Symmetrized (n : ℕ) (o : List Float) (t : ℕ) (l : List Float) : Type 0 where
@@ -33,7 +34,7 @@ module _ (n : ℕ) (o l : List Float) (i j : ℕ) (v : Float) (size : length l �
   unfolding new
   above =
       get_or-set_other (set l (i * n + j) v) (j * n + i) (i * n + j) v nan
-      (λ z. let y = same_place i j j i n k (omega arith) z in omega arith)
+      (λ z. let y = same_from_place i j j i n k (omega arith) z in omega arith)
       ∙ get_or-set_same l (i * n + j) v nan (rw size (at_in i j n n (omega arith) k))
 
   below : at n new j i ≡ v
@@ -45,17 +46,17 @@ module _ (n : ℕ) (o l : List Float) (i j : ℕ) (v : Float) (size : length l �
 
   others : (p q : ℕ) → p < q → q < n → p * n + q ≢ i * n + j → (at n new p q ≡ at n l p q) × (at n new q p ≡ at n l q p)
   others p q a b d = (
-    other p q d (λ z. let y = same_place p q j i n b (omega arith) z in omega arith),
+    other p q d (λ z. let y = same_from_place p q j i n b (omega arith) z in omega arith),
     other q p
-        (λ z. let y = same_place q p i j n (omega arith) k z in omega arith)
-        (λ z. let y = same_place q p j i n (omega arith) (omega arith) z in d (rw (y.0, y.1))),
+        (λ z. let y = same_from_place q p i j n (omega arith) k z in omega arith)
+        (λ z. let y = same_from_place q p j i n (omega arith) (omega arith) z in d (rw (y.0, y.1))),
   )
 
   pub symmetrized_step : Symmetrized n o (i * n + (j + 1)) (set (set l (i * n + j) v) (j * n + i) v)
   unfolding new
   symmetrized_step = record {
     done = λ p q a b s. ⊎_elim
-        (λ (z : p * n + q ≡ i * n + j). let y = same_place p q i j n b k z in rw (y.0, y.1) (above ∙ is_mean, below ∙ is_mean))
+        (λ (z : p * n + q ≡ i * n + j). let y = same_from_place p q i j n b k z in rw (y.0, y.1) (above ∙ is_mean, below ∙ is_mean))
         (λ (z : p * n + q < i * n + j).
         let w = others p q a b (λ x. omega (arith, x, z)) in
         let y = H.done p q a b z in (w.0 ∙ y.0, w.1 ∙ y.1))
@@ -65,8 +66,8 @@ module _ (n : ℕ) (o l : List Float) (i j : ℕ) (v : Float) (size : length l �
         let y = H.left p q a b (omega (arith, s)) in (w.0 ∙ y.0, w.1 ∙ y.1);
     diag = λ p a.
         other p p
-        (λ z. let y = same_place p p i j n a k z in omega arith)
-        (λ z. let y = same_place p p j i n a (omega arith) z in omega arith) ∙ H.diag p a;
+        (λ z. let y = same_from_place p p i j n a k z in omega arith)
+        (λ z. let y = same_from_place p p j i n a (omega arith) z in omega arith) ∙ H.diag p a;
   }
 
 -- between two rows no pair is passed

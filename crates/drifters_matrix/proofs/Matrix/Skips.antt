@@ -16,7 +16,7 @@ use Rattle.drifters_real.specs.Real.{is_finite}
 use Rattle.drifters_real.proofs.Real.Zeros.{Summed, summed_zero, summed_add, zero_left, zero_right, mul_comm_float}
 use Rattle.drifters_matrix.specs.Matrix.{tab, at, matrix, transpose, sum_terms, matmul, mul_transpose, scaled, from_diagonal, all_finite, add_matrix}
 use Rattle.drifters_matrix.proofs.Matrix.Tab.{tab_ext, get_d_tab}
-use Rattle.drifters_matrix.proofs.Matrix.Grid.{length_matrix, entry, matrix_is, at_in, lt_or_le}
+use Rattle.drifters_matrix.proofs.Matrix.Grid.{entry, matrix_ext, at_in, lt_or_le}
 use Rattle.drifters_matrix.proofs.Matrix.Sums.{sum_ext, product_transpose}
 
 -- ---- finite entries
@@ -45,10 +45,6 @@ skip_same f g (suc n) h = last (eq (f n) plus_zero) refl ∙ ap (λ x. x ⊕ f n
     last : (b : Bool) → eq (f n) plus_zero ≡ b → cond b (sum_terms true f g n) (sum_terms true f g n ⊕ f n ⊗ g n) ≡ sum_terms true f g n ⊕ f n ⊗ g n
     last true e = sym (zero_left (f n) (g n) (summed true f g n) e (h n (le_refl (suc n))))
     last false e = refl
-
--- two matrices of equal entries
-matrix_ext : (r c : ℕ) (f g : ℕ → ℕ → Float) → ((i j : ℕ) → i < r → j < c → f i j ≡ g i j) → matrix r c f ≡ matrix r c g
-matrix_ext r c f g h = matrix_is r c g (matrix r c f) (length_matrix r c f) (λ i j p q. entry r c f i j p q ∙ h i j p q)
 
 -- an entry of a transpose
 transposed_at : (r c : ℕ) (m : List Float) {t : List Float} (i j : ℕ) → t ≡ transpose r c m → i < c → j < r → at r t i j ≡ at c m j i

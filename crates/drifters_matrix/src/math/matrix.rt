@@ -61,9 +61,9 @@ impl<const R: usize, const C: usize, const N: usize> Matrix<R, C, N> {
         requires { N ≡ R * C }
         ensures { result.data ≡ transpose R C self.now.data }
     {
-        let mut data = [0.0; N];
-        runs::transpose_into(&self.data, &mut data, R, C);
-        Matrix { data }
+        let mut out = Matrix { data: [0.0; N] };
+        self.transpose_into(&mut out);
+        out
     }
 
     pub fn transpose_into(&self, out: &mut Matrix<C, R, N>)

@@ -28,7 +28,7 @@ pub(crate) fn transpose_into(m: &[f64], out: &mut [f64], r: usize, c: usize)
     }
 }
 
-// +0.0 in every place.
+// +0.0 in every place. A function of its own, though it is one call: it is public, and tools/test_row_starts reads it by this name.
 pub fn clear(row: &mut [f64])
     ensures { row.new ≡ zeros (length row.old) }
 {

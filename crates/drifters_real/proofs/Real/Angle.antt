@@ -1,5 +1,6 @@
 -- The angle in units of 2 ^ -60, as the program finds it: 2 ^ 60 times the angle is a float, and cut to a whole number it is `angle`.
 use Rattle.std.proofs.Common.{◌≡◌, ℕ, zero, suc, ◌+◌, ◌-◌, ◌*◌, ◌/◌, ◌^◌, ◌<◌, ◌≤◌, min, Bool, true, false, cond, ◌&&◌, ◌||◌, T, eqb, ltb, ◌⊎◌, ℤ, pos, sym, refl, ap, ◌∙◌, subst, ap₂, inl, inr, true≢false, zero-le, le_trans, le_of_eq, lt_of_lt_of_le, lt_of_le_of_lt, le_of_lt, mul-le-mul_right, zero-lt-suc, mul_assoc, mul_comm, mul-le-mul, mul-lt-mul_of_pos_right, mul-pos, one-mul, zero-mul, mul-one, mul_right_comm, le_of_mul-le-mul_right, mul_left_comm, arith, lit<, lit≤, eqb→eq, ltb→lt, lt→ltb, pow_pos}
+use mathlib.Core.Bool.{and-false}
 use native.Mathlib.Nat.{min-eq_left, div-le_of_le-mul}
 use lib.Ieee.{Float, nan, inf, fin, binary64, up, down, round, mul, le, lt, fits, to_unsigned, of_bits, unlike}
 use lib.Ieee.Fits.{and_l, and_r, up_pos, down_pos}
@@ -218,11 +219,7 @@ in_both x a b = ap₂ (λ (p q : Bool). p && q) a b
 
 pub out_high : (x : Float) → le x angle_limit ≡ false → in_range x ≡ false
 unfolding in_range
-out_high x e = ap (λ (b : Bool). le plus_zero x && b) e ∙ and_no (le plus_zero x)
-  where
-    and_no : (p : Bool) → (p && false) ≡ false
-    and_no true = refl
-    and_no false = refl
+out_high x e = ap (λ (b : Bool). le plus_zero x && b) e ∙ and-false (le plus_zero x)
 
 pub out_low : (x : Float) → le plus_zero x ≡ false → in_range x ≡ false
 unfolding in_range
@@ -234,13 +231,10 @@ unfolding square
 square_is t = refl
 
 pub square_most : (l t : ℕ) → t ≤ l * 2 ^ 60 → square t ≤ l * l * 2 ^ 64
-square_most l t h = le_trans (le_of_eq (square_is t)) (div-le_of_le-mul (2 ^ 56) (le_trans (mul-le-mul h h) (le_of_eq (sort l (2 ^ 60) ∙ ap (λ (x : ℕ). l * l * x) (mul_comm (2 ^ 64) (2 ^ 56)) ∙ swap (l * l) (2 ^ 56) (2 ^ 64)))))
+square_most l t h = le_trans (le_of_eq (square_is t)) (div-le_of_le-mul (2 ^ 56) (le_trans (mul-le-mul h h) (le_of_eq (sort l (2 ^ 60) ∙ ap (λ (x : ℕ). l * l * x) (mul_comm (2 ^ 64) (2 ^ 56)) ∙ mul_left_comm (l * l) (2 ^ 56) (2 ^ 64)))))
   where
     sort : (l c : ℕ) → l * c * (l * c) ≡ l * l * (c * c)
     sort l c = simp (mul_assoc, mul_left_comm)
-
-    swap : (q c d : ℕ) → q * (c * d) ≡ c * (q * d)
-    swap q c d = mul_left_comm q c d
 
 -- of one in range
 pub square_limit_lem : (t : ℕ) → t ≤ limit * 2 ^ 60 → square t ≤ square_limit

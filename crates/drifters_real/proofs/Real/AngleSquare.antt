@@ -1,6 +1,6 @@
 -- The square that the rule takes, against the exact one: x units of 2 ^ -64 are at most (a / b) ^ 2, and less by at most two units.
 use Rattle.std.proofs.Common.{◌≡◌, ℕ, suc, ◌+◌, ◌-◌, ◌*◌, ◌/◌, ◌^◌, ◌<◌, ◌≤◌, ◌⊎◌, ℤ, pos, negsuc, sym, ap, ◌∙◌, inl, inr, le_trans, le_of_eq, le_of_lt, mul-le-mul_right, mul_assoc, mul-le-mul, lt_of_not-le, mul-one, mul_right_comm, div-mul-le_self, le_of_mul-le-mul_right, div-one, mul-div_cancel, mul_left_comm, arith, pow_pos, pow_mono, pow-add}
-use native.Mathlib.Nat.{lt-div-mul-add, div-le_of_le-mul}
+use native.Mathlib.Nat.{lt-div-mul-add, div-le_of_le-mul, sub-add_cancel}
 use native.Mathlib.Decide.{dec_le}
 use lib.Ieee.{up, down}
 use lib.Ieee.Fits.{down_pos}
@@ -46,11 +46,8 @@ whole_or_small m (negsuc k) h = go (dec_le (suc k) 60)
   where
     go : Dec (suc k ≤ 60) → WholeOrSmall (m * 1) (2 ^ suc k)
     go (yes l) =
-        let e : m * 1 * 2 ^ 60 ≡ m * 1 * 2 ^ (60 - suc k) * 2 ^ suc k = ap (λ (x : ℕ). m * 1 * 2 ^ x) (sym (back (suc k) l)) ∙ ap (λ (x : ℕ). m * 1 * x) (pow-add 2 (60 - suc k) (suc k)) ∙ sym (mul_assoc (m * 1) (2 ^ (60 - suc k)) (2 ^ suc k)) in
+        let e : m * 1 * 2 ^ 60 ≡ m * 1 * 2 ^ (60 - suc k) * 2 ^ suc k = ap (λ (x : ℕ). m * 1 * 2 ^ x) (sym (sub-add_cancel l)) ∙ ap (λ (x : ℕ). m * 1 * x) (pow-add 2 (60 - suc k) (suc k)) ∙ sym (mul_assoc (m * 1) (2 ^ (60 - suc k)) (2 ^ suc k)) in
         inl (e ∙ sym (ap (λ (x : ℕ). x / 2 ^ suc k * 2 ^ suc k) e ∙ ap (λ (x : ℕ). x * 2 ^ suc k) (mul-div_cancel (m * 1 * 2 ^ (60 - suc k)) (pow_pos (suc k)))))
-      where
-        back : (j : ℕ) → j ≤ 60 → 60 - j + j ≡ 60
-        back j l = omega arith
     go (no n) = inr (le_trans (le_of_eq (ap (λ (x : ℕ). x * 256) (mul-one m))) (le_trans (le_of_lt (small m h)) (pow_mono (lt_of_not-le n))))
       where
         small : (m : ℕ) → m < 2 ^ 53 → m * 256 < 2 ^ 61

@@ -2,6 +2,7 @@
 -- the root of M, where M * 4 ^ j is the number in squares of the smallest value, than its neighbours: 4 * M is even, and so never the square of 2 * p + 1.
 -- From 2 ^ (52 + j) on every f64 is a multiple of 2 ^ j, and so at least that far from p * 2 ^ j.
 use Rattle.std.proofs.Common.{◌≡◌, ℕ, zero, suc, ◌+◌, ◌-◌, ◌*◌, ◌/◌, ◌%◌, ◌^◌, ◌<◌, ◌≤◌, Bool, true, false, T, ℤ, pos, sym, refl, ap, ◌∙◌, subst, inl, inr, zero-le, le_trans, le_of_eq, lt_of_lt_of_le, lt_of_le_of_lt, le_of_lt, lt_irrefl, mul-le-mul_right, mul_assoc, suc-mul, mul-le-mul, lt_of_mul-lt-mul_right, eq-or-lt_of_le, mul-le-mul_left, mul-lt-mul_of_pos_right, mul-pos, one-mul, lt_of_not-le, zero-mul, mul-one, mul_right_comm, not-le_of_lt, mul-div_cancel, arith, lit<, lit≤, ltb→lt, lt→ltb, pow_pos, pow_mono, pow-add, shl_lt}
+use native.Mathlib.Nat.{sub-add_cancel}
 use native.Mathlib.Decide.{dec_le}
 use lib.Count.{count_trailing_zeros}
 use lib.Ieee.Positive.{first_pos}
@@ -74,11 +75,8 @@ sized (fin b m e) f t =
 multiple : (m i j : ℕ) → m < 2 ^ 53 → 2 ^ (52 + j) ≤ m * 2 ^ i → (c : ℕ) × (m * 2 ^ i ≡ c * 2 ^ j)
 multiple m i j h l = go (dec_le j i)
   where
-    back : (i j : ℕ) → j ≤ i → i - j + j ≡ i
-    back i j h = omega arith
-
     go : Dec (j ≤ i) → (c : ℕ) × (m * 2 ^ i ≡ c * 2 ^ j)
-    go (yes k) = (m * 2 ^ (i - j), ap (λ (x : ℕ). m * 2 ^ x) (sym (back i j k)) ∙ ap (λ (x : ℕ). m * x) (pow-add 2 (i - j) j) ∙ sym (mul_assoc m (2 ^ (i - j)) (2 ^ j)))
+    go (yes k) = (m * 2 ^ (i - j), ap (λ (x : ℕ). m * 2 ^ x) (sym (sub-add_cancel k)) ∙ ap (λ (x : ℕ). m * x) (pow-add 2 (i - j) j) ∙ sym (mul_assoc m (2 ^ (i - j)) (2 ^ j)))
     go (no k) =
         absurd (not-le_of_lt (lt_of_lt_of_le (mul-lt-mul_of_pos_right h (pow_pos i)) (le_trans (le_of_eq (sym (pow-add 2 53 i))) (pow_mono (less i j (lt_of_not-le k))))) l)
       where

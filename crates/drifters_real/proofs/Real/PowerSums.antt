@@ -1,6 +1,6 @@
 -- The rule's sums against the exact ones.
 use Rattle.std.proofs.Common.{◌≡◌, ℕ, zero, suc, ◌+◌, ◌-◌, ◌*◌, ◌/◌, ◌^◌, ◌<◌, ◌≤◌, sym, refl, ap, ◌∙◌, subst, ap₂, subst₂, zero-le, le_trans, le_of_eq, add-le-add, mul-le-mul_right, zero-lt-suc, mul_assoc, lt-suc_self, mul_comm, add-mul, mul-pos, one-mul, pow-suc, zero-mul, mul_right_comm, mul-div_cancel, mul_left_comm, arith, pow-add}
-use native.Mathlib.Nat.{pow-zero, le-suc}
+use native.Mathlib.Nat.{pow-zero, le-suc, suc-add, sub-add_cancel, add-sub_of_le}
 use Rattle.drifters_real.specs.Real.{sum_of, factorial, power, term, exact_sin_plus, exact_sin_minus, exact_cos_plus, exact_cos_minus, sinc_plus, sinc_minus, cos_plus, cos_minus}
 use Rattle.drifters_real.proofs.Real.Terms.{term_denominator, err, Between, term_between}
 
@@ -37,19 +37,13 @@ divides zero j = (1, ap factorial (none j) ∙ sym (one-mul (factorial j)))
     none j = omega arith
 divides (suc d) j =
     let r = divides d j in
-    (suc (d + j) * r.0, ap factorial (next d j) ∙ ap (λ (x : ℕ). suc (d + j) * x) r.1 ∙ sym (mul_assoc (suc (d + j)) r.0 (factorial j)))
-  where
-    next : (d j : ℕ) → suc d + j ≡ suc (d + j)
-    next d j = omega arith
+    (suc (d + j) * r.0, ap factorial (suc-add d j) ∙ ap (λ (x : ℕ). suc (d + j) * x) r.1 ∙ sym (mul_assoc (suc (d + j)) r.0 (factorial j)))
 
 pub factorial_split : (n j : ℕ) → j ≤ n → factorial n / factorial j * factorial j ≡ factorial n
 factorial_split n j h =
     let r = divides (n - j) j in
-    let e : factorial n ≡ r.0 * factorial j = ap factorial (sym (back n j h)) ∙ r.1 in
+    let e : factorial n ≡ r.0 * factorial j = ap factorial (sym (sub-add_cancel h)) ∙ r.1 in
     ap (λ (x : ℕ). x / factorial j * factorial j) e ∙ ap (λ (x : ℕ). x * factorial j) (mul-div_cancel r.0 (factorial_pos j)) ∙ sym e
-  where
-    back : (n j : ℕ) → j ≤ n → n - j + j ≡ n
-    back n j h = omega arith
 
 -- ---- powers of a square
 pub pow_square : (a k : ℕ) → (a * a) ^ k ≡ a ^ (2 * k)
@@ -60,10 +54,7 @@ pow_square a (suc k) = pow-suc (a * a) k ∙ ap (λ (x : ℕ). x * (a * a)) (pow
     two k = omega arith
 
 pow_split : (b n j : ℕ) → j ≤ n → b ^ j * b ^ (n - j) ≡ b ^ n
-pow_split b n j h = sym (pow-add b j (n - j)) ∙ ap (λ (x : ℕ). b ^ x) (join n j h)
-  where
-    join : (n j : ℕ) → j ≤ n → j + (n - j) ≡ n
-    join n j h = omega arith
+pow_split b n j h = sym (pow-add b j (n - j)) ∙ ap (λ (x : ℕ). b ^ x) (add-sub_of_le h)
 
 -- ---- a term over the common denominator
 -- D B k, for the square B of b, times what is missing: the sine's

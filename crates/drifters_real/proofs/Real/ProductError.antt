@@ -1,7 +1,7 @@
 -- The angle times the rounded difference of two sums, rounded once more, against the exact sine: within the angle times 2 ^ -50.
 -- W and U are those of `Error`.
 use Rattle.std.proofs.Common.{◌≡◌, ℕ, ◌+◌, ◌-◌, ◌*◌, ◌/◌, ◌^◌, ◌<◌, ◌≤◌, true, false, ◌⊎◌, ℤ, sym, refl, ap, ◌∙◌, subst, inl, inr, true≢false, zero-le, le_trans, le_of_eq, le-add_right, lt_of_le_of_lt, le_of_lt, add-le-add, mul-le-mul_right, mul_assoc, mul_comm, div-lt_iff_lt-mul, add-mul, eq-zero-or-pos, mul-le-mul, mul-le-mul_left, mul-lt-mul_of_pos_right, mul-pos, lt_of_not-le, le-div_iff_mul-le, mul-one, mul_right_comm, le_of_mul-le-mul_right, mul_left_comm, le-add_left, arith, lit<, lit≤, pow_pos, pow_mono, pow-add}
-use native.Mathlib.Nat.{le_of_mul-le-mul_left}
+use native.Mathlib.Nat.{le_of_mul-le-mul_left, mul-mul-mul_comm}
 use native.Mathlib.Decide.{dec_le}
 use lib.Ieee.{Float, nan, inf, fin, binary64, up, down, size, round, neg, mul}
 use lib.Ieee.Digits.{size-le, size_reaches}
@@ -86,11 +86,8 @@ mul_plus m e (fin false n d) G v =
     round_same binary64 false (m * up e * (n * up d)) (down e * down d) (m * up e * G) (down e * W) (mul-pos (down_pos e) (down_pos d)) (mul-pos (down_pos e) (pow_pos 1074)) (crossed (m * up e) (n * up d) (down e) (down d) G W v.1)
   where
     crossed : (a h b d G W : ℕ) → h * W ≡ G * d → a * h * (b * W) ≡ a * G * (b * d)
-    crossed a h b d G W e = left a h b W ∙ ap (λ (x : ℕ). a * b * x) e ∙ right a b d G
+    crossed a h b d G W e = mul-mul-mul_comm a h b W ∙ ap (λ (x : ℕ). a * b * x) e ∙ right a b d G
       where
-        left : (a h b W : ℕ) → a * h * (b * W) ≡ a * b * (h * W)
-        left a h b W = omega arith
-
         right : (a b d G : ℕ) → a * b * (G * d) ≡ a * G * (b * d)
         right a b d G = omega arith
 

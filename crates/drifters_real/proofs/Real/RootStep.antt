@@ -1,7 +1,7 @@
 -- Zimmermann's step: from the whole part s of the root of an a of 53 or 54 digits, the nearest whole number to the root of a * 2 ^ 52, by one division.
 use Rattle.std.proofs.Common.{◌≡◌, ℕ, zero, suc, ◌+◌, ◌-◌, ◌*◌, ◌/◌, ◌%◌, ◌^◌, ◌<◌, ◌≤◌, sym, refl, ap, ◌∙◌, le_trans, le_of_suc-le-suc, mod-lt, mul-le-mul, lt_of_not-le, div-add-mod', not-le_of_lt, arith}
 use Prim.Native.Nat.{compare}
-use native.Mathlib.Nat.{div-le_of_le-mul}
+use native.Mathlib.Nat.{div-le_of_le-mul, add-sub_of_le}
 use lib.Ieee.{nearest}
 use Rattle.drifters_real.specs.Real.{whole_root}
 use Rattle.drifters_real.specs.Limbs.{IsWholeRoot, nearest_root}
@@ -75,7 +75,7 @@ step_facts a s lo hi h =
       rest = r;
       uu_le = mul-le-mul q q;
       v_le = remainder_le s (n_of a s % (2 * s)) (mod-lt (n_of a s) (pos s l));
-      square = square_is a s (u_of a s) (n_of a s % (2 * s)) (a - s * s) (split a (s * s) h.below) (div-add-mod' (n_of a s) (2 * s));
+      square = square_is a s (u_of a s) (n_of a s % (2 * s)) (a - s * s) (add-sub_of_le h.below) (div-add-mod' (n_of a s) (2 * s));
       small = small_enough a hi;
     }
   where
@@ -84,9 +84,6 @@ step_facts a s lo hi h =
 
     pos : (s : ℕ) → 2 ^ 26 ≤ s → 0 < 2 * s
     pos s l = omega arith
-
-    split : (a x : ℕ) → x ≤ a → x + (a - x) ≡ a
-    split a x h = omega arith
 
     small_enough : (a : ℕ) → a < 2 ^ 54 → a * 2 ^ 52 < 4 ^ 53
     small_enough a h = omega arith

@@ -1,7 +1,7 @@
 -- Two floats of one value are one float. So a rounding that changes nothing gives back what it was handed, a power of two goes through, and a minus sign.
 use Rattle.std.proofs.Common.{◌≡◌, ℕ, zero, suc, ◌+◌, ◌-◌, ◌*◌, ◌/◌, ◌%◌, ◌^◌, ◌<◌, ◌≤◌, Bool, true, false, cond, ◌&&◌, T, eqb, ltb, leb, ◌⊎◌, ℤ, pos, negsuc, sym, refl, ap, ◌∙◌, subst, inl, inr, true≢false, le_trans, le_of_eq, lt_of_lt_of_le, le_of_suc-le-suc, lt_of_le_of_lt, add-zero, add_assoc, lt_irrefl, mul-le-mul_right, mod-lt, zero-lt-suc, mul_assoc, mul_comm, eq-zero-or-pos, mul-le-mul, eq-or-lt_of_le, mul-lt-mul_of_pos_right, mul-pos, one-mul, pow-suc, lt_of_not-le, div-add-mod', zero-mul, mul-one, mul_right_comm, le_of_mul-le-mul_right, mul-div_cancel, mul_left_comm, arith, lit<, lit≤, eqb→eq, ltb→lt, leb→le, pow_pos, pow_mono, pow-add, shl_lt}
 use Prim.Native.Nat.{compare, Ordering}
-use native.Mathlib.Nat.{eq_of_mul-eq-mul_right, pow-succ', div-div-eq-div-mul}
+use native.Mathlib.Nat.{eq_of_mul-eq-mul_right, pow-succ', div-div-eq-div-mul, suc_inj, sub-add_cancel}
 use lib.Pow.{pow-lt}
 use lib.Ieee.{Float, nan, inf, fin, Format, binary64, prec, emax, low, up, down, size, nearest, odd, units, round, neg, mul, fits, of_bits, of_int}
 use lib.Ieee.Digits.{size-le}
@@ -45,9 +45,6 @@ same_exp m n (negsuc a) (pos b) o p h =
 same_exp m n (negsuc a) (negsuc b) o p h =
     let r = odd_pow m n (suc b) (suc a) o p (ap (λ (x : ℕ). x * 2 ^ suc b) (sym (mul-one m)) ∙ h ∙ ap (λ (x : ℕ). x * 2 ^ suc a) (mul-one n)) in
     (r.0, ap negsuc (suc_inj (sym r.1)))
-  where
-    suc_inj : {x y : ℕ} → suc x ≡ suc y → x ≡ y
-    suc_inj e = native.Mathlib.Nat.suc_inj e
 
 is_odd : (f : Format) (s : Bool) (m : ℕ) (e : ℤ) → T (fits f (fin s (suc m) e)) → suc m % 2 ≡ 1
 unfolding fits
@@ -96,10 +93,7 @@ pub shift : (c : ℕ) (e : ℤ) → 1074 ≤ c → down e ≤ 2 ^ 1074 → (j : 
 shift c (pos a) g h = (a + c, sym (pow-add 2 a c) ∙ sym (mul-one (2 ^ (a + c))))
 shift c (negsuc a) g h =
     let l : suc a ≤ c = le_trans (pow_le_back (suc a) 1074 h) g in
-    (c - suc a, one-mul (2 ^ c) ∙ ap (λ (x : ℕ). 2 ^ x) (sym (back c (suc a) l)) ∙ pow-add 2 (c - suc a) (suc a))
-  where
-    back : (c b : ℕ) → b ≤ c → c - b + b ≡ c
-    back c b l = omega arith
+    (c - suc a, one-mul (2 ^ c) ∙ ap (λ (x : ℕ). 2 ^ x) (sym (sub-add_cancel l)) ∙ pow-add 2 (c - suc a) (suc a))
 
 pos_not_zero : (x : ℕ) → 0 < x → 0 ≡ x → ⊥
 pos_not_zero x h e = omega arith

@@ -1,6 +1,6 @@
 -- The loop of `power_sums`: what holds at its head, that a pass keeps it, and what it comes to.
 use Rattle.std.proofs.Common.{◌≡◌, ℕ, zero, suc, ◌+◌, ◌-◌, ◌*◌, ◌/◌, ◌^◌, ◌<◌, ◌≤◌, Bool, true, ◌&&◌, T, leb, ◌⊎◌, sym, refl, ap, ◌∙◌, subst, ap₂, inl, inr, zero-le, le_trans, le_of_suc-le-suc, lt_of_le_of_lt, add-zero, le_of_lt, mul-le-mul, le_antisymm, eq-or-lt_of_le, mul-pos, mul-zero, zero-add, zero-mul, add-one, arith, lit<, lit≤, leb→le}
-use native.Mathlib.Nat.{zero-div}
+use native.Mathlib.Nat.{zero-div, suc-add, sub-add_cancel}
 use lib.Ieee.Fits.{and_l, and_r}
 use Rattle.drifters_real.specs.Real.{sum_of, term, sinc_plus, sinc_minus, cos_plus, cos_minus}
 use Rattle.drifters_real.specs.Limbs.{value, IsWide, square_limit}
@@ -61,17 +61,11 @@ later : (x k j : ℕ) → term x k ≡ 0 → term x (j + k) ≡ 0
 unfolding term
 later x k zero e = ap (term x) (zero-add k) ∙ e
 later x k (suc j) e =
-    ap (term x) (suc_out j k) ∙ ap (λ (y : ℕ). y * x / (2 ^ 64 * ((2 * (j + k) + 2) * (2 * (j + k) + 3)))) (later x k j e)
+    ap (term x) (suc-add j k) ∙ ap (λ (y : ℕ). y * x / (2 ^ 64 * ((2 * (j + k) + 2) * (2 * (j + k) + 3)))) (later x k j e)
     ∙ ap (λ (y : ℕ). y / (2 ^ 64 * ((2 * (j + k) + 2) * (2 * (j + k) + 3)))) (zero-mul x) ∙ zero-div (2 ^ 64 * ((2 * (j + k) + 2) * (2 * (j + k) + 3)))
-  where
-    suc_out : (j k : ℕ) → suc j + k ≡ suc (j + k)
-    suc_out j k = omega arith
 
 later_from : (x a k : ℕ) → term x a ≡ 0 → a ≤ k → term x k ≡ 0
-later_from x a k e h = ap (term x) (split a k h) ∙ later x a (k - a) e
-  where
-    split : (a k : ℕ) → a ≤ k → k ≡ k - a + a
-    split a k h = omega arith
+later_from x a k e h = ap (term x) (sym (sub-add_cancel h)) ∙ later x a (k - a) e
 
 later_even : (x i j : ℕ) → term x (2 * i) ≡ 0 → i ≤ j → term x (2 * j) ≡ 0
 later_even x i j e h = later_from x (2 * i) (2 * j) e (omega arith)
@@ -83,19 +77,13 @@ later_odd x i j e h = later_from x (2 * i) (2 * j + 1) e (omega arith)
 ended : (f : ℕ → ℕ) (i d : ℕ) → ((j : ℕ) → i ≤ j → f j ≡ 0) → sum_of f (d + i) ≡ sum_of f i
 unfolding sum_of
 ended f i zero h = ap (sum_of f) (zero-add i)
-ended f i (suc d) h = ap (sum_of f) (suc_out d i) ∙ ap₂ (λ (a b : ℕ). a + b) (ended f i d h) (h (d + i) (reach d i)) ∙ add-zero (sum_of f i)
+ended f i (suc d) h = ap (sum_of f) (suc-add d i) ∙ ap₂ (λ (a b : ℕ). a + b) (ended f i d h) (h (d + i) (reach d i)) ∙ add-zero (sum_of f i)
   where
-    suc_out : (d i : ℕ) → suc d + i ≡ suc (d + i)
-    suc_out d i = omega arith
-
     reach : (d i : ℕ) → i ≤ d + i
     reach d i = omega arith
 
 ended_at : (f : ℕ → ℕ) (i : ℕ) → i ≤ 16 → ((j : ℕ) → i ≤ j → f j ≡ 0) → sum_of f i ≡ sum_of f 16
-ended_at f i l h = sym (ended f i (16 - i) h) ∙ ap (sum_of f) (back i l)
-  where
-    back : (i : ℕ) → i ≤ 16 → 16 - i + i ≡ 16
-    back i l = omega arith
+ended_at f i l h = sym (ended f i (16 - i) h) ∙ ap (sum_of f) (sub-add_cancel l)
 
 -- ---- the four sums' terms
 abbrev pub sp_term : ℕ → ℕ → ℕ

@@ -1,6 +1,6 @@
 -- The terms of the rule against the exact ones: a term is at most the exact one, and less by at most `err`, which depends on a bound X of the square.
 use Rattle.std.proofs.Common.{◌≡◌, ℕ, zero, suc, ◌+◌, ◌*◌, ◌/◌, ◌^◌, ◌<◌, ◌≤◌, sym, ap, ◌∙◌, subst, ap₂, le_trans, le_of_eq, le_refl, le_of_lt, mul-le-mul_right, mul_assoc, mul_comm, mul-le-mul, mul-le-mul_left, mul-pos, pow-suc, le-div_iff_mul-le, div-mul-le_self, le_of_mul-le-mul_right, mul_left_comm, arith, pow_pos}
-use native.Mathlib.Nat.{lt-div-mul-add, pow-zero}
+use native.Mathlib.Nat.{lt-div-mul-add, pow-zero, mul-mul-mul_comm}
 use Rattle.drifters_real.specs.Real.{factorial, term}
 
 -- ---- one step down: t' is the term after t, N / D the exact one that t is from, A / B the angle's square, S the unit
@@ -9,15 +9,12 @@ low_step S t x t' D B d N A P h k l =
     le_of_mul-le-mul_right
     (le_trans (le_of_eq (sort S t' D B d))
     (le_trans (mul-le-mul_right (D * B) h)
-    (le_trans (le_of_eq (cross t x D B))
+    (le_trans (le_of_eq (mul-mul-mul_comm t x D B))
     (le_trans (mul-le-mul k l) (le_of_eq (sym (mul_assoc N A S)))))))
     P
   where
     sort : (S t' D B d : ℕ) → t' * (D * (B * d)) * S ≡ t' * (S * d) * (D * B)
     sort S t' D B d = simp (mul_assoc, mul_comm, mul_left_comm)
-
-    cross : (t x D B : ℕ) → t * x * (D * B) ≡ t * D * (x * B)
-    cross t x D B = simp (mul_assoc, mul_left_comm)
 
 -- ---- and one step up
 high_step : (S t x t' D B d N A e e' C Y : ℕ) → 0 < S → t * x ≤ t' * (S * d) + S * d → N ≤ (t + e) * D → A * S ≤ (x + 2) * B → t ≤ C → x ≤ Y
@@ -26,15 +23,12 @@ high_step S t x t' D B d N A e e' C Y P h k l c y b =
     le_of_mul-le-mul_right
     (le_trans (le_of_eq (mul_assoc N A S))
     (le_trans (mul-le-mul k l)
-    (le_trans (le_of_eq (cross (t + e) (x + 2) D B))
+    (le_trans (le_of_eq (mul-mul-mul_comm (t + e) D (x + 2) B))
     (le_trans (mul-le-mul_right (D * B) bound) (le_of_eq (sort S (t' + e') D B d))))))
     P
   where
     sort : (S u D B d : ℕ) → u * (S * d) * (D * B) ≡ u * (D * (B * d)) * S
     sort S u D B d = simp (mul_assoc, mul_comm, mul_left_comm)
-
-    cross : (u v D B : ℕ) → u * D * (v * B) ≡ u * v * (D * B)
-    cross u v D B = simp (mul_assoc, mul_left_comm)
 
     more : e * x ≤ e * Y
     more = mul-le-mul_left e y

@@ -1,11 +1,11 @@
 -- A sum that starts at +0.0 is never -0.0, so a term that is a zero changes no such sum. Assumes nothing.
-use Rattle.std.proofs.Common.{◌≡◌, ℕ, zero, suc, ◌+◌, ◌-◌, ◌*◌, ◌/◌, ◌^◌, ◌<◌, ◌≤◌, Bool, true, false, cond, ◌&&◌, ◌||◌, T, eqb, ltb, ℤ, pos, negsuc, sym, refl, ap, ◌∙◌, subst, true≢false, le_trans, le_refl, add-zero, lt_irrefl, mul-le-mul_right, zero-lt-suc, mul_assoc, mul_comm, add-mul, lt_of_mul-lt-mul_right, mul-lt-mul_of_pos_right, mul-pos, one-mul, zero-mul, mul_right_comm, mul_left_comm, arith, ltb→lt, lt→ltb, pow_pos, pow-add}
+use Rattle.std.proofs.Common.{◌≡◌, ℕ, zero, suc, ◌+◌, ◌-◌, ◌*◌, ◌/◌, ◌^◌, ◌<◌, ◌≤◌, Bool, true, false, cond, ◌&&◌, ◌||◌, T, eqb, ltb, ℤ, pos, negsuc, sym, refl, ap, ◌∙◌, subst, true≢false, le_trans, le_refl, add-zero, lt_irrefl, mul-le-mul_right, zero-lt-suc, mul_assoc, mul_comm, add-mul, lt_of_mul-lt-mul_right, mul-lt-mul_of_pos_right, mul-pos, one-mul, zero-mul, mul_right_comm, mul_left_comm, arith, ltb→lt, pow_pos, pow-add}
 use mathlib.Core.Bool.{beq}
 use native.Mathlib.Nat.{sub-zero}
+use borrow.Author.Tests.{lt-ltb}
 use lib.Count.{count_trailing_zeros}
 use lib.Dec.{eqb-suc-zero, leb-suc-zero}
 use lib.Ieee.{Float, nan, inf, fin, Format, binary64, up, down, minus, unlike, below, level, round, sum, neg, add, mul, lt, eq, le, fits, of_bits, odd, units}
-use lib.Ieee.Bits.{is_true}
 use lib.Ieee.Fits.{add-fits, up_pos, down_pos, round-fits, round_is}
 use lib.Ieee.Exact.{round_exact}
 use lib.Ieee.Order.{round_mono}
@@ -74,18 +74,12 @@ zero_zero true d = rw (add_fin, zero-mul, zero-mul, zero-mul) (unfold sum in rou
 zero_zero false d = rw (add_fin, zero-mul, zero-mul, zero-mul) (unfold sum in round_none false (1 * down d) (mul-pos (zero-lt-suc 0) (down_pos d)))
 
 -- to a number that is no zero: the sum's size is its own, and its sign decides
-not_above : (a : ℕ) → ltb a 0 ≡ false
-not_above a = leb-suc-zero a
-
 sum_none : (s t : Bool) (a c : ℕ) → ltb 0 a ≡ true → sum binary64 s a t 0 c ≡ round binary64 s a c
 unfolding sum
 sum_none true true a c h = rw add-zero refl
-sum_none true false a c h = rw (not_above, h, sub-zero) refl
-sum_none false true a c h = rw (not_above, sub-zero) refl
+sum_none true false a c h = rw (leb-suc-zero, h, sub-zero) refl
+sum_none false true a c h = rw (leb-suc-zero, sub-zero) refl
 sum_none false false a c h = rw add-zero refl
-
-above : (a : ℕ) → 0 < a → ltb 0 a ≡ true
-above a h = is_true (ltb 0 a) (lt→ltb 0 a h)
 
 pub add_no_size : {x : Float} → Summed x → (t : Bool) (d : ℤ) → x ⊕ fin t 0 d ≡ x
 add_no_size {x = nan} h t d = unfold add in refl
@@ -95,7 +89,7 @@ add_no_size {x = fin s zero e} h t d =
     ap (λ x. x ⊕ fin t 0 d) z ∙ zero_zero t d ∙ sym z
 add_no_size {x = fin s (suc m) e} h t d =
     rw (add_fin, zero-mul, zero-mul)
-    (sum_none s t (suc m * up e * down d) (down e * down d) (above _ (mul-pos (mul-pos (zero-lt-suc m) (up_pos e)) (down_pos d)))
+    (sum_none s t (suc m * up e * down d) (down e * down d) (lt-ltb 0 _ (mul-pos (mul-pos (zero-lt-suc m) (up_pos e)) (down_pos d)))
     ∙ round_same binary64 s (suc m * up e * down d) (down e * down d) (suc m * up e) (down e) (down_down e d) (down_pos e) (simp (mul_assoc, mul_comm, mul_left_comm))
     ∙ round_self s (suc m) e h.fitting)
 
@@ -169,7 +163,7 @@ finite_add (fin s m e) (fin t n d) h = unfold is_finite in (refl, refl)
 -- a fraction that is no less than the smallest value rounds to no zero
 not_below : (s : Bool) (a b : ℕ) → 0 < a → b ≡ 0 → T (below false a s b || level false a s b) → ⊥
 not_below true a b p z h = subst T (differs a b _ p z) h
-not_below false a b p z h = subst T (ap (λ t. t || level false a false b) (ap (ltb a) z ∙ not_above a) ∙ differs a b _ p z) h
+not_below false a b p z h = subst T (ap (λ t. t || level false a false b) (ap (ltb a) z ∙ leb-suc-zero a) ∙ differs a b _ p z) h
 
 smallest_above : (z : Float) → T (le (fin false 1 (negsuc 1073)) z) → minus_zero (neg z) ≡ false
 unfolding le lt eq neg

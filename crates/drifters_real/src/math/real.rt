@@ -1,4 +1,5 @@
-// Port of math/real.rs: square root, sine and cosine by whole numbers, and the methods of f64 that the filter uses.
+// Port of math/real.rs: square root, sine and cosine by whole numbers, and the methods of f64 that the filter uses. Not a number is made by `0.0 / 0.0`:
+// `f64::NAN` was tried, and two proofs did not close.
 ghost use Rattle.std.specs.Prelude.{◌≡◌, ◌+◌, ◌-◌, ◌*◌, ◌/◌, ◌%◌, ◌^◌, ◌<◌, ◌≤◌};
 ghost use Rattle.drifters_real.specs.Real.{sqrt, sin_cos, difference, square, abs, max, clamp, is_finite};
 ghost use Rattle.drifters_real.specs.Limbs.{IsWholeRoot, nearest_root, IsRootPattern, value, IsWide, AreSums, square_limit};
@@ -81,6 +82,7 @@ pub fn sqrt(x: f64) -> f64
     if x.is_nan() {
         return x;
     }
+    // By the pattern from here on, which `root_bits` reads.
     let b = f64::to_bits(x);
     if b > 0x8000_0000_0000_0000 {
         return 0.0 / 0.0;
@@ -249,7 +251,7 @@ pub fn sin_cos(theta: f64) -> SinCos
     }
 }
 
-// The absolute value: the sign cleared, of -0 too.
+// The absolute value: the sign cleared, of -0 too. A helper that document 01 names.
 pub fn abs(x: f64) -> f64
     ensures { result ≡ abs x }
 {
@@ -278,7 +280,7 @@ pub fn clamp(x: f64, low: f64, high: f64) -> f64
     if high < y { high } else { y }
 }
 
-// Neither an infinity nor not a number.
+// Neither an infinity nor not a number. Its definition is ours, which the demands are stated by, and stands for f64's.
 pub fn is_finite(x: f64) -> bool
     ensures { result ≡ is_finite x }
 {

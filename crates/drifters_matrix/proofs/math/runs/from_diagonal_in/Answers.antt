@@ -10,9 +10,10 @@ use lib.Dec.{eqb}
 use lib.Ieee.{Float, nan}
 use lib.ListN.{get_or, set, length-set}
 use lib.Seq.{get_or-set_same, get_or-set_other}
+use Rattle.std.proofs.lemmas.Nat.{same_from_place}
 use Rattle.drifters_real.specs.Scalar.{plus_zero}
 use Rattle.drifters_matrix.specs.Matrix.{at, from_diagonal}
-use Rattle.drifters_matrix.proofs.Matrix.Grid.{at_in, same_place, matrix_is}
+use Rattle.drifters_matrix.proofs.Matrix.Grid.{at_in, matrix_is}
 use Rattle.drifters_matrix.proofs.math.runs.from_diagonal_in.Invariants.{Rows, entry_of}
 use Rattle.drifters_matrix.proofs.math.runs.from_diagonal_in.Goals as goal
 
@@ -29,7 +30,7 @@ rows-set {n} {d} {i} {l} w h =
     l' = set l (i * n + i) (get_or d i nan)
 
     other : (p q : ℕ) → q < n → (p ≡ i → q ≡ i → ⊥) → at n l' p q ≡ at n l p q
-    other p q k ne = get_or-set_other l (i * n + i) (p * n + q) (get_or d i nan) nan (λ z. let y = same_place p q i i n k h z in ne y.0 y.1)
+    other p q k ne = get_or-set_other l (i * n + i) (p * n + q) (get_or d i nan) nan (λ z. let y = same_from_place p q i i n k h z in ne y.0 y.1)
 
     here : (q : ℕ) → q < n → (t : Bool) → eqb i q ≡ t → at n l' i q ≡ cond (eqb i q) (get_or d i nan) plus_zero
     here q k true e =
