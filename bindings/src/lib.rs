@@ -76,7 +76,7 @@
 //!
 //! docs/MANUAL.md of the repository has all of this at length; include/drifters_eqf.h says what the library asks of
 //! the machine: the usual floating-point mode, a processor of x86-64-v2, and about 80 kB of stack for a call, 90 kB for
-//! one by several compasses, 155 kB for a sheet.
+//! one by several compasses, 175 kB for a sheet.
 //!
 //! # What is proved
 //!
