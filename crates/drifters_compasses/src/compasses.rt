@@ -60,9 +60,10 @@ pub fn update_compasses(
     let tried = budget.min(readings.len());
     let mut left = [0.0; FILTER_LENGTH];
     let best = best_of(run, &readings[..tried], north_noise, &mut left);
-    if best.is_some() {
-        *run = left;
+    if best.is_none() {
+        return Ok(Tried { tried, best });
     }
+    *run = left;
     Ok(Tried { tried, best })
 }
 

@@ -1,7 +1,7 @@
 -- `compasses::update_compasses` meets its contract.
 use Prim.Native.Nat.{ℕ}
-use mathlib.Core.Path.{◌≡◌, sym, ap₂, ◌∙◌}
-use mathlib.Core.Bool.{◌&&◌}
+use mathlib.Core.Path.{◌≡◌, sym, ap, ap₂, ◌∙◌}
+use mathlib.Core.Bool.{not, ◌&&◌}
 use mathlib.Core.List.{List}
 use lib.ListN.{length, take}
 use lib.Ieee.{Float}
@@ -48,20 +48,9 @@ first : (run readings north_noise : List Float) (budget : ℕ) {b : BestTry} {cu
 first run readings north_noise budget {k = k} is long few e =
     e ∙ best_of_first run readings north_noise (length readings / reading_length) k is long (rw few (tried_bounds.count budget (length readings / reading_length)))
 
-pub returns-then-is_some : goal.returns-then-is_some
+pub returns-then-is_none : goal.returns-then-is_none
 unfolding tried
-returns-then-is_some c =
-    let whole = rw (c.ok_or.ensures.ok_part, c.in_ok-run.was) at c.as_mut_array.ensures.cases in
-    let north = rw (c.ok_or-2.ensures.ok_part, c.in_ok-north_noise.was) at c.as_array.ensures.cases in
-    let few = rw c.as_chunks.ensures.front_len at c.min-tried.ensures in
-    best_applied _ _ _ _ whole.long north.long (sym c.readings_fit.ensures ∙ c.if-not-readings_fit.false) _ c.best_of-best.result
-    (sym (ap₂ ◌&&◌ (rw whole.same at c.all_finite.ensures) (rw north.same at c.all_finite-2.ensures)) ∙ c.if-not-all_finite.false)
-    few (first _ c.args.readings.now _ c.args.budget c.as_chunks.ensures.front c.as_chunks.ensures.front_len few (rw (whole.same, north.same) at c.best_of-best.ensures))
-    (sym c.is_some.ensures ∙ c.if-is_some.true)
-
-pub returns-else-is_some : goal.returns-else-is_some
-unfolding tried
-returns-else-is_some c =
+returns-then-is_none c =
     let whole = rw (c.ok_or.ensures.ok_part, c.in_ok-run.was) at c.as_mut_array.ensures.cases in
     let north = rw (c.ok_or-2.ensures.ok_part, c.in_ok-north_noise.was) at c.as_array.ensures.cases in
     let few = rw c.as_chunks.ensures.front_len at c.min-tried.ensures in
@@ -69,4 +58,15 @@ returns-else-is_some c =
     (none_applied _ _ _ _ whole.long north.long (sym c.readings_fit.ensures ∙ c.if-not-readings_fit.false) _ c.best_of-best.result
     (sym (ap₂ ◌&&◌ (rw whole.same at c.all_finite.ensures) (rw north.same at c.all_finite-2.ensures)) ∙ c.if-not-all_finite.false)
     few (first _ c.args.readings.now _ c.args.budget c.as_chunks.ensures.front c.as_chunks.ensures.front_len few (rw (whole.same, north.same) at c.best_of-best.ensures))
-    (sym c.is_some.ensures ∙ c.if-is_some.false))
+    (c.is_none.ensures ∙ ap not c.if-is_none.true))
+
+pub returns : goal.returns
+unfolding tried
+returns c =
+    let whole = rw (c.ok_or.ensures.ok_part, c.in_ok-run.was) at c.as_mut_array.ensures.cases in
+    let north = rw (c.ok_or-2.ensures.ok_part, c.in_ok-north_noise.was) at c.as_array.ensures.cases in
+    let few = rw c.as_chunks.ensures.front_len at c.min-tried.ensures in
+    best_applied _ _ _ _ whole.long north.long (sym c.readings_fit.ensures ∙ c.if-not-readings_fit.false) _ c.best_of-best.result
+    (sym (ap₂ ◌&&◌ (rw whole.same at c.all_finite.ensures) (rw north.same at c.all_finite-2.ensures)) ∙ c.if-not-all_finite.false)
+    few (first _ c.args.readings.now _ c.args.budget c.as_chunks.ensures.front c.as_chunks.ensures.front_len few (rw (whole.same, north.same) at c.best_of-best.ensures))
+    (c.is_none.ensures ∙ ap not c.if-is_none.false)
