@@ -186,6 +186,31 @@ static void update_scalar(double *filter)
     print_update("update_scalar", code, nis);
 }
 
+/* Three compasses: one is switched off, one is beside a magnet, and the third is applied. */
+static void update_compasses(double *filter)
+{
+    double readings[3 * DRIFTERS_READING_LENGTH] = {0};
+    double numbers[DRIFTERS_COMPASSES_LENGTH] = {0};
+    size_t counts[DRIFTERS_COUNTS_LENGTH] = {0};
+    double nis = 0.0;
+
+    vector(readings + DRIFTERS_READING_LENGTH, 0.5, 0.75, 0.25);
+    vector(readings + 2 * DRIFTERS_READING_LENGTH, 0.875, 0.0625, 0.5);
+    vector(numbers + DRIFTERS_COMPASSES_NORTH, 1.0, 0.0, 0.5);
+    diagonal(numbers + DRIFTERS_COMPASSES_NOISE, 0.01);
+    need("update_compasses",
+         drifters_update_compasses(filter, DRIFTERS_FILTER_LENGTH, readings, 3 * DRIFTERS_READING_LENGTH,
+                                   numbers, DRIFTERS_COMPASSES_LENGTH, DRIFTERS_MOST_READINGS,
+                                   counts, DRIFTERS_COUNTS_LENGTH, &nis, DRIFTERS_NIS_LENGTH));
+    printf("update_compasses, %zu tried,", counts[DRIFTERS_COUNTS_TRIED]);
+    if (counts[DRIFTERS_COUNTS_CHOSEN] == DRIFTERS_NONE_CHOSEN) {
+        printf(" none\n");
+    } else {
+        printf(" compass %zu", counts[DRIFTERS_COUNTS_CHOSEN]);
+        print_number(nis);
+    }
+}
+
 /* A variance below 0: no such matrix has a Cholesky factor. The refused update changes nothing. */
 static void refused_update(double *filter)
 {
@@ -275,6 +300,7 @@ int main(void)
     update_direction(filter);
     update(filter);
     update_scalar(filter);
+    update_compasses(filter);
     refused_update(filter);
     print_state(filter);
     run_sheet();

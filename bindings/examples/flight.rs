@@ -5,10 +5,11 @@ use std::process::ExitCode;
 
 use drifters_port::places::coordinate;
 use drifters_port::{diagonal, kind, run_sheet_into};
-use drifters_port::{Densities, Deviations, Direction, Filter, Fix, General, Imu, Scalar, Start};
 use drifters_port::{
-    Refusal, State, VelocityFix, FILTER_LENGTH, POSITION_LENGTH, STATES, TEXT_LENGTH,
+    Compasses, Densities, Deviations, Direction, Fix, General, Imu, Scalar, Start, VelocityFix,
 };
+use drifters_port::{CompassesAnswer, Filter, Refusal, State};
+use drifters_port::{FILTER_LENGTH, MOST_READINGS, POSITION_LENGTH, STATES, TEXT_LENGTH};
 
 /// A number by its bits and in decimal.
 fn print_number(x: f64) {
@@ -136,6 +137,23 @@ fn update_scalar(filter: &mut Filter) {
     print_update("update_scalar", filter.update_scalar(&seen.numbers()));
 }
 
+/// Three compasses: one is switched off, one is beside a magnet, and the third is applied.
+fn update_compasses(filter: &mut Filter) -> Result<(), Refusal> {
+    let readings = [[0.0; 3], [0.5, 0.75, 0.25], [0.875, 0.0625, 0.5]];
+    let compasses = Compasses {
+        north: [1.0, 0.0, 0.5],
+        noise: diagonal([0.01; 3]),
+    };
+    match filter.update_compasses(&readings, &compasses.numbers(), MOST_READINGS)? {
+        CompassesAnswer::None { tried } => println!("update_compasses, {tried} tried, none"),
+        CompassesAnswer::Chosen { index, nis, tried } => {
+            print!("update_compasses, {tried} tried, compass {index}");
+            print_number(nis);
+        }
+    }
+    Ok(())
+}
+
 /// A variance below 0: no such matrix has a Cholesky factor. The refused update changes nothing.
 fn refused_update(filter: &mut Filter) {
     let before = filter.clone();
@@ -217,6 +235,7 @@ fn flight() -> Result<(), Refusal> {
     update_direction(&mut filter);
     update(&mut filter);
     update_scalar(&mut filter);
+    update_compasses(&mut filter)?;
     refused_update(&mut filter);
     print_state(&filter)?;
     run_sheet()

@@ -2,7 +2,7 @@
 use Prim.Native.Nat.{ℕ, ◌+◌, ◌*◌, ◌≤◌, ◌<◌}
 use mathlib.Core.Path.{◌≡◌, refl, sym, ap, ◌∙◌}
 use mathlib.Core.Bool.{Bool, true, false, cond}
-use mathlib.Core.List.{List, [], ◌∷◌, map}
+use mathlib.Core.List.{List, [], ◌∷◌}
 use native.Mathlib.Numerals.{add-one}
 use native.Mathlib.Omega.{arith}
 use borrow.Author.Tests.{leb-true}
@@ -13,11 +13,11 @@ use lib.Ieee.{Float}
 use Rattle.std.specs.Prelude.{Option, Some, None}
 use Rattle.std.proofs.lemmas.Option.{same_Some}
 use Rattle.drifters_kind.specs.Kind.{call_length}
-use Rattle.drifters_entry.specs.Log.{outcome_on, entries_from}
+use Rattle.drifters_entry.specs.Entry.{outcome_on}
 use Rattle.drifters_eqf.specs.Answer.{Answer}
 use Rattle.drifters_kind.specs.declared.kind.Kind.{Kind}
 use Rattle.call_sheet.specs.Sheet.{SheetCall, sheet_call, with_call, calls_in}
-use Rattle.call_sheet.specs.Text.{call_of, line_text, lines_text}
+use Rattle.call_sheet.specs.Text.{numbers_of, line_text, lines_text}
 use Rattle.call_sheet.proofs.SheetLayout.{no_some}
 use Rattle.call_sheet.proofs.Digits.{decimal_short, kind_digit, answer_short}
 
@@ -27,18 +27,14 @@ pub line_short : (i : ℕ) (kind : Kind) (a : Answer) → length (line_text i ki
 unfolding line_text
 line_short i kind a = simp length-append (omega (arith, decimal_short i, kind_digit kind, answer_short a))
 
--- the lines of the calls of a sheet, made on a filter's run
-abbrev pub lines_on : ℕ → List Float → List SheetCall → List ℕ
-lines_on i run cs = lines_text i (entries_from run (map call_of cs))
-
-pub lines_short : (i : ℕ) (run : List Float) (cs : List SheetCall) → length (lines_on i run cs) ≤ 23 * length cs
-unfolding lines_text entries_from
+pub lines_short : (i : ℕ) (run : List Float) (cs : List SheetCall) → length (lines_text i run cs) ≤ 23 * length cs
+unfolding lines_text
 lines_short i run [] = omega arith
 lines_short i run (c ∷ cs) =
-    let o = outcome_on run (call_of c) in
+    let o = outcome_on run c.kind (numbers_of c.bits) in
     let one = line_short i c.kind o.answer in
     let rest = lines_short (i + 1) o.run cs in
-    omega (arith, length-append (line_text i c.kind o.answer) (lines_on (i + 1) o.run cs))
+    omega (arith, length-append (line_text i c.kind o.answer) (lines_text (i + 1) o.run cs))
 
 -- ---- the calls from the i-th on, with their numbers from a place on
 

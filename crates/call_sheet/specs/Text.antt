@@ -1,5 +1,5 @@
 -- The text that is printed for a call sheet, in ASCII. Definitions and statements only.
-use Rattle.std.specs.Prelude.{ℕ, ◌+◌, ◌≤◌, cond, List, [], ◌∷◌, ◌++◌, map, leb, length, Float, Option, Some, None, Result, Ok, Err}
+use Rattle.std.specs.Prelude.{ℕ, ◌+◌, ◌≤◌, cond, List, [], ◌∷◌, ◌++◌, leb, length, Float, Option, Some, None, Result, Ok, Err}
 use Rattle.std.specs.Float.{binary64}
 use Rattle.std.specs.Float.Ieee.{to_bits}
 unfoldable pub use Rattle.little_endian.specs.Bits.{numbers_of}
@@ -7,7 +7,7 @@ use Rattle.drifters_eqf.specs.Answer.{sheet_refusal, Answer, Nis, Fine, Refused}
 use Rattle.drifters_eqf.specs.declared.answer.Refusal.{Refusal}
 use Rattle.drifters_eqf.specs.declared.answer.Refusal.TheVariants as refusal
 use Rattle.drifters_kind.specs.Kind.{kind_number}
-use Rattle.drifters_entry.specs.Log.{Call, LogEntry, Log, entries_from, log_of}
+use Rattle.drifters_entry.specs.Entry.{outcome_on}
 use Rattle.drifters_kind.specs.declared.kind.Kind.{Kind}
 use Rattle.little_endian.specs.Bytes.{placed}
 use Rattle.call_sheet.specs.Digits.{digits, decimal}
@@ -43,28 +43,22 @@ answer_text (Refused n) = refused_text n
 unfoldable pub line_text : ℕ → Kind → Answer → List ℕ
 line_text i kind a = decimal i ++ space ++ decimal (kind_number kind) ++ space ++ answer_text a ++ newline
 
--- a call of a sheet, as a call
-abbrev pub call_of : SheetCall → Call
-call_of c = record { kind = c.kind; numbers = numbers_of c.bits }
-
--- the log of a sheet: its filter, and its calls on it
-abbrev pub sheet_log : Sheet → Log
-sheet_log sheet = log_of (numbers_of sheet.filter) (map call_of sheet.calls)
-
--- the lines of the entries of a log, the first of which has the index i
-unfoldable pub lines_text : ℕ → List LogEntry → List ℕ
-lines_text i [] = []
-lines_text i (e ∷ es) = line_text i e.called.kind e.answer ++ lines_text (i + 1) es
+-- the lines of the calls of a sheet, the first of which has the index i: each is made on the filter that the one before it left
+unfoldable pub lines_text : ℕ → List Float → List SheetCall → List ℕ
+lines_text i run [] = []
+lines_text i run (c ∷ cs) =
+    let o = outcome_on run c.kind (numbers_of c.bits) in
+    line_text i c.kind o.answer ++ lines_text (i + 1) o.run cs
 
 -- the lines of calls, made on a filter's run; none where there are no calls
 abbrev pub lines_of : List Float → Option (List SheetCall) → List ℕ
 lines_of run None = []
-lines_of run (Some calls) = lines_text 1 (entries_from run (map call_of calls))
+lines_of run (Some calls) = lines_text 1 run calls
 
--- the text of a sheet: the lines of its log; of a broken one only that it is refused
+-- the text of a sheet: the lines of its calls on its filter; of a broken one only that it is refused
 abbrev pub text_of : Option Sheet → List ℕ
 text_of None = refused_line sheet_refusal
-text_of (Some sheet) = lines_text 1 (sheet_log sheet).entries
+text_of (Some sheet) = lines_text 1 (numbers_of sheet.filter) sheet.calls
 
 -- the text that is printed for a file's bytes
 unfoldable pub sheet_text : List ℕ → List ℕ

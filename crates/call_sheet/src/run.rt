@@ -2,10 +2,10 @@
 ghost use Rattle.std.specs.Prelude.{◌≡◌, true, ◌+◌, ◌*◌, ◌≤◌, length, take};
 ghost use Rattle.drifters_kind.specs.Kind.{call_length};
 ghost use Rattle.drifters_eqf.specs.Answer.{refusal_number, answer_of};
-ghost use Rattle.drifters_entry.specs.Log.{outcome_on};
+ghost use Rattle.drifters_entry.specs.Entry.{outcome_on};
 ghost use Rattle.little_endian.specs.Bytes.{placed};
-ghost use Rattle.call_sheet.specs.Sheet.{sheet_call, is_some, calls_in};
-ghost use Rattle.call_sheet.specs.Text.{refused_line, call_of, lines_of, sheet_text, printed, print_into};
+ghost use Rattle.call_sheet.specs.Sheet.{is_some, calls_in};
+ghost use Rattle.call_sheet.specs.Text.{refused_line, numbers_of, lines_of, sheet_text, printed, print_into};
 
 use crate::sheet::{MOST_CALLS, MOST_NUMBERS, read_sheet};
 use crate::text::{put, put_answer, put_line};
@@ -74,7 +74,7 @@ fn run_calls(run: &mut [f64], kinds: &[Kind], numbers: &[u64], text: &mut [u8]) 
 // Makes a call whose numbers are given by their bits; what a state call writes is not printed. The arrays hold the most of any kind: there is no heap.
 fn run_call(kind: Kind, run: &mut [f64], bits: &[u64]) -> Answer
     requires { length bits.now ≡ call_length kind }
-    ensures { (answer_of result ≡ (outcome_on run.old (call_of (sheet_call kind bits.now))).answer) × (run.new ≡ (outcome_on run.old (call_of (sheet_call kind bits.now))).run) }
+    ensures { (answer_of result ≡ (outcome_on run.old kind (numbers_of bits.now)).answer) × (run.new ≡ (outcome_on run.old kind (numbers_of bits.now)).run) }
 {
     let mut numbers = [0.0; MOST_CALL_NUMBERS];
     let n = bits.len();

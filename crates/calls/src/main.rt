@@ -1,10 +1,11 @@
-// Makes one call of each kind on a filter, one refusal of each number that a call can give, and each refusal of a scalar update, and prints the
-// answers.
+// Makes one call of each kind on a filter, one refusal of each number that a call can give, each refusal of a scalar update, and an update by several
+// compasses with each kind of answer, and prints the answers.
 #![tactic(auto)]
 
 use call_sheet::text::{MOST_ANSWER, answer_text};
+use drifters_compasses::compasses::{Tried, update_compasses};
 use drifters_entry::entry::{FILTER_LENGTH, START_LENGTH, filter_call, nav_state, start};
-use drifters_eqf::answer::Answer;
+use drifters_eqf::answer::{Answer, Refusal};
 use drifters_kind::kind::{Kind, STATE_LENGTH};
 use std::io;
 
@@ -34,6 +35,22 @@ fn report(rt: &impl Print, called: &str, answer: Answer) -> io::Result<()> {
     let length = answer_text(answer, &mut bytes);
     rt.write_all(&bytes[..length])?;
     rt.write_all(b"\n")
+}
+
+// A line of an update by several compasses: how many readings were tried, and the index and the answer of the one that was applied.
+fn report_compasses(rt: &impl Print, answer: Result<Tried, Refusal>) -> io::Result<()> {
+    let t = match answer {
+        Ok(t) => t,
+        Err(refusal) => return report(rt, "update_compasses", Err(refusal)),
+    };
+    print!(rt; "update_compasses tried {} applied ", t.tried)?;
+    match t.best {
+        Some(best) => {
+            print!(rt; "{}", best.index)?;
+            report(rt, "", Ok(Some(best.nis)))
+        }
+        None => rt.write_all(b"none\n"),
+    }
 }
 
 // Makes a call that writes nothing beside the filter.
@@ -113,6 +130,13 @@ fn direction_of_zeros() -> [f64; 15] {
     v
 }
 
+// An update by three compasses, as many of them as `budget` allows: one that points away, one of zeros, and the direction of `pair`.
+fn compasses(rt: &impl Print, run: &mut [f64], budget: usize) -> io::Result<()> {
+    let pair = pair();
+    let readings = [-0.5, 0.25, -0.1, 0.0, 0.0, 0.0, pair[0], pair[1], pair[2]];
+    report_compasses(rt, update_compasses(run, &readings, &pair[3..], budget))
+}
+
 // A general update: the bias of the gyroscope, measured.
 fn general() -> [f64; 75] {
     let mut v = [0.0; 75];
@@ -174,7 +198,19 @@ fn scalar_refusals(rt: &impl Print, run: &mut [f64]) -> io::Result<()> {
     call(rt, Kind::Scalar, run, &scalar(1.0e154, 0.01))
 }
 
-// A start's alpha, 0.5, keeps the turn of a scalar update of this filter below 8: it is 0 for that refusal. The last call is an update of the
+// The three answers of an update by several compasses, on a filter that has just started: a budget above 8, one of 0, and one of 3. The last line is
+// the update by the direction that was applied, on a copy of that filter: it has the same answer.
+fn several_compasses(rt: &impl Print) -> io::Result<()> {
+    let mut run = [0.0; FILTER_LENGTH];
+    report(rt, "start", start(&mut run, &start_numbers()))?;
+    let mut copy = run;
+    compasses(rt, &mut run, 9)?;
+    compasses(rt, &mut run, 0)?;
+    compasses(rt, &mut run, 3)?;
+    call(rt, Kind::Direction, &mut copy, &pair())
+}
+
+// A start's alpha, 0.5, keeps the turn of a scalar update of this filter below 8: it is 0 for that refusal. The last call on it is an update of the
 // filter that the refusals left as it was.
 fn main(rt: HostRuntime) -> io::Result<()> {
     let mut run = [0.0; FILTER_LENGTH];
@@ -184,5 +220,6 @@ fn main(rt: HostRuntime) -> io::Result<()> {
     scalar_refusals(&rt, &mut run)?;
     run[ALPHA] = 0.0;
     call(&rt, Kind::Scalar, &mut run, &scalar(100.0, 0.25))?;
-    call(&rt, Kind::General, &mut run, &general())
+    call(&rt, Kind::General, &mut run, &general())?;
+    several_compasses(&rt)
 }

@@ -1,10 +1,11 @@
 -- The three demands, each a named statement. The proofs are in proofs/Demands/. Definitions and statements only.
--- They are about the definitions `call`, `start` and `read_into`, and of the code the contracts say it: the outcome of `filter_call` of drifters_entry
--- is `call` at its kind, that of `nav_state` is `call` at State, that of `start` is `start`; `read_sheet` and `run_sheet` of call_sheet leave what
--- `read_into` and `sheet_text` say; square root, sine and cosine are those of drifters_real.
+-- They are about the definitions `call`, `update_compasses`, `start` and `read_into`, and of the code the contracts say it: the outcome of `filter_call` of
+-- drifters_entry is `call` at its kind, that of `nav_state` is `call` at State, that of `start` is `start`; that of `update_compasses` of
+-- drifters_compasses is `update_compasses`; `read_sheet` and `run_sheet` of call_sheet leave what `read_into` and `sheet_text` say; square root, sine and
+-- cosine are those of drifters_real.
 use Rattle.std.specs.Prelude.{ℕ, ◌+◌, ◌*◌, ◌<◌, ◌≡◌, ◌↔◌, Bool, true, false, not, ◌&&◌, ◌||◌, cond, eqb, length, get_or, Float, Some, Err}
 use mathlib.Core.List.{List, [], ◌∷◌, map, Forall₂}
-use Rattle.std.specs.Float.{nan}
+use Rattle.std.specs.Float.{nan, ◌≤ᶠ◌, ◌<ᶠ◌}
 use Rattle.std.specs.Float.Ieee.{eq, is_nan}
 use Rattle.drifters_real.specs.Scalar.{plus_zero}
 use Rattle.drifters_real.specs.Real.{is_finite, SqrtNearest, SineBound, CosineBound}
@@ -20,13 +21,15 @@ use Rattle.drifters_eqf.specs.declared.filter.EqFilter.{EqFilter}
 use Rattle.drifters_entry.specs.Layout.{filter_length, start_length, sigma_place, from_run, to_run, state_to_run}
 use Rattle.drifters_kind.specs.Kind.{form_of, written_length}
 use Rattle.drifters_entry.specs.Entry.{Request, refusal, propagation, measurement, estimate, request_of, Outcome, refused, lengths_fit, call, started, start}
-use Rattle.drifters_entry.specs.Log.{Call, LogEntry, Log, log_of}
+use Rattle.drifters_compasses.specs.Compasses.{count_of, compasses_fit, tried, attempt, CompassesAnswer, CompassesOutcome, update_compasses, compasses_number, compasses_values, TriedBounds}
+use Rattle.drifters_compasses.specs.Compasses as compasses
 use Rattle.drifters_kind.specs.declared.kind.Kind.{Kind}
 use Rattle.drifters_kind.specs.declared.kind.Kind.TheVariants.{Propagate, Position, Velocity, Direction, General, State, Scalar}
 use Rattle.call_sheet.specs.Sheet.{Sheet, Runs, read_sheet, is_some, refusal_of, runs_fit, in_runs, read_into}
-use Rattle.call_sheet.specs.Text.{refused_line, numbers_of, call_of, lines_text, sheet_text}
+use Rattle.call_sheet.specs.Text.{refused_line, numbers_of, lines_text, sheet_text}
 use Rattle.drifters_eqf.specs.declared.answer.Refusal.{Refusal}
 use Rattle.drifters_demands.specs.Like.{Signs}
+use Rattle.drifters_demands.specs.Log.{Call, kind_call, compasses_call, CallAnswer, kind_answer, compasses_answer, LogEntry, Log, log_of}
 use Rattle.drifters_demands.specs.Turn.{filter_signs, turned, turn_call, turn_log}
 
 -- ---- demand 1: bad input is refused by number, all else is accepted
@@ -108,6 +111,22 @@ pub record Checked (checks : List Check) (run written : List Float) (o : Outcome
   pub accepted : first_of checks ≡ 0 → (n : ℕ) → o.answer ≡ Refused n → ⊥
   pub finite : first_of checks ≡ 0 → (all_finite (values_of o.answer o.written) ≡ true) × (all_finite o.run ≡ true)
 
+-- the checks of an update by several compasses, in the manual's order
+abbrev pub compasses_checks : List Float → List Float → List Float → ℕ → List Check
+compasses_checks run readings north_noise budget =
+    unless length_refusal (compasses_fit (length run) (length readings) (length north_noise) budget)
+    ∷ unless blank_refusal (all_finite run && all_finite north_noise)
+    ∷ []
+
+-- What came of an update by several compasses: the number of its first check that refuses, 0 where none does; where it is refused, or no reading was
+-- accepted, the filter as it was; else a finite value, and a finite filter whose covariance mirrors.
+pub record CheckedCompasses (checks : List Check) (run : List Float) (o : CompassesOutcome) : Type 0 where
+  pub number : compasses_number o.answer ≡ first_of checks
+  pub refusal : (n : ℕ) → o.answer ≡ compasses.Refused n → o.run ≡ run
+  pub accepted : first_of checks ≡ 0 → (n : ℕ) → o.answer ≡ compasses.Refused n → ⊥
+  pub none : (k : ℕ) → o.answer ≡ compasses.None k → o.run ≡ run
+  pub chosen : (i k : ℕ) (x : Float) → o.answer ≡ compasses.Chosen i x k → (all_finite (compasses_values o.answer) ≡ true) × FiniteMirrored o.run
+
 -- the checks of a file's bytes that are read into lent runs
 abbrev pub sheet_checks : List ℕ → List ℕ → List Kind → List ℕ → List Check
 sheet_checks s filter kinds numbers = unless length_refusal (runs_fit filter kinds numbers) ∷ unless sheet_refusal (is_some (read_sheet s)) ∷ []
@@ -126,11 +145,14 @@ pub record NullCall (kind : Kind) (run v written : List Float) : Type 0 where
   pub finite : all_finite run && all_finite v ≡ true
   pub null : has_null kind v ≡ true
 
--- Every call, every start and every sheet is so checked; a call is refused as null exactly where it is such a call; and an accepted propagation or
--- update leaves a covariance that mirrors bit for bit.
+-- Every call, every update by several compasses, every start and every sheet is so checked; a call is refused as null exactly where it is such a call;
+-- and an accepted propagation or update leaves a covariance that mirrors bit for bit.
 pub record Demand1 : Type 0 where
   pub calls : (kind : Kind) (run v written : List Float) → Checked (checks kind run v written) run written (call kind run v written)
   pub null : (kind : Kind) (run v written : List Float) → (call kind run v written).answer ≡ Refused null_refusal ↔ NullCall kind run v written
+  pub compasses :
+      (run readings north_noise : List Float) (budget : ℕ)
+      → CheckedCompasses (compasses_checks run readings north_noise budget) run (update_compasses run readings north_noise budget)
   pub starts : (run v : List Float) → Checked (start_checks run v) run [] (start run v)
   pub sheets : (s filter : List ℕ) (kinds : List Kind) (numbers : List ℕ) → CheckedSheet s filter kinds numbers (read_into s filter kinds numbers)
   pub mirrored :
@@ -154,16 +176,35 @@ accepted_outcome (measurement w m noise alpha) f run written =
     }
 accepted_outcome estimate f run written = record { answer = Fine; run = run; written = state_to_run (nav_state f) }
 
--- An accepted call comes to what it asks for, and so does a start; a sheet prints the lines of the entries of its log; the square root is the nearest
--- f64; sine and cosine keep their bounds.
+-- of the answers to the first k tries, that to try i is a normalised innovation squared x; none is smaller, and each one before it is larger
+pub record EarliestSmallest (answers : ℕ → Answer) (k i : ℕ) (x : Float) : Type 0 where
+  pub within : i < k
+  pub accepted : answers i ≡ Nis x
+  pub smallest : (j : ℕ) (y : Float) → j < k → answers j ≡ Nis y → x ≤ᶠ y
+  pub earliest : (j : ℕ) (y : Float) → j < i → answers j ≡ Nis y → x <ᶠ y
+
+-- What an update by several compasses chooses of its k tries, each a direction call on the same filter: the one with the smallest normalised innovation
+-- squared, the earliest among equals, and it leaves what that call leaves; none exactly where each is refused.
+pub record Chooses (k : ℕ) (tries : ℕ → Outcome) (o : CompassesOutcome) : Type 0 where
+  pub chosen : (i n : ℕ) (x : Float) → o.answer ≡ compasses.Chosen i x n ↔ ((n ≡ k) × EarliestSmallest (λ j. (tries j).answer) k i x)
+  pub left : (i n : ℕ) (x : Float) → o.answer ≡ compasses.Chosen i x n → o.run ≡ (tries i).run
+  pub none : (n : ℕ) → o.answer ≡ compasses.None n ↔ ((n ≡ k) × ((j : ℕ) → j < k → (m : ℕ) × ((tries j).answer ≡ Refused m)))
+
+-- An accepted call comes to what it asks for, and so does a start; an update by several compasses chooses of as many readings as are tried, within
+-- their bounds; a sheet prints a line for each of its calls, each made on the filter that the one before it left; the square root is the nearest f64;
+-- sine and cosine keep their bounds.
 pub record Demand2 : Type 0 where
   pub calls :
       (kind : Kind) (run v written : List Float) → first_of (checks kind run v written) ≡ 0
       → call kind run v written ≡ accepted_outcome (request_of kind (from_run run) v) (from_run run) run written
+  pub compasses :
+      (run readings north_noise : List Float) (budget : ℕ) → first_of (compasses_checks run readings north_noise budget) ≡ 0
+      → Chooses (tried budget (count_of (length readings))) (attempt run readings north_noise) (update_compasses run readings north_noise budget)
+  pub tries : TriedBounds
   pub starts : (run v : List Float) → first_of (start_checks run v) ≡ 0 → start run v ≡ record { answer = Fine; run = started v; written = [] }
   pub sheets :
       (s : List ℕ) (sheet : Sheet) → read_sheet s ≡ Some sheet
-      → sheet_text s ≡ lines_text 1 (log_of (numbers_of sheet.filter) (map call_of sheet.calls)).entries
+      → sheet_text s ≡ lines_text 1 (numbers_of sheet.filter) sheet.calls
   pub root : SqrtNearest
   pub sine : SineBound
   pub cosine : CosineBound
@@ -181,10 +222,10 @@ pub record Equal (a b : List Float) : Type 0 where
   pub size : length a ≡ length b
   pub number : (i : ℕ) → i < length a → EqualNumber (get_or a i nan) (get_or b i nan)
 
--- two calls are of the same kind, and their numbers are equal
-pub record EqualCall (c d : Call) : Type 0 where
-  pub kind : c.kind ≡ d.kind
-  pub numbers : Equal c.numbers d.numbers
+-- two calls are of the same kind, and their numbers are equal; or both by several compasses, with equal readings, north and noise, and the same budget
+pub data EqualCall : Call → Call → Type 0 where
+  same_kind : {kind : Kind} {v w : List Float} → Equal v w → EqualCall (kind_call kind v) (kind_call kind w)
+  both_compasses : {r r' v v' : List Float} {budget : ℕ} → Equal r r' → Equal v v' → EqualCall (compasses_call r v budget) (compasses_call r' v' budget)
 
 -- two answers to calls of a kind, each with the numbers written, are equal: both `ok`, with equal numbers written, 33 each from a state call and
 -- none from another; or both a NIS, equal as numbers; or both refused with the same number
@@ -193,10 +234,23 @@ pub data EqualAnswer (kind : Kind) : Answer → List Float → Answer → List F
   both_nis : {x x' : Float} {w w' : List Float} → EqualNumber x x' → EqualAnswer kind (Nis x) w (Nis x') w'
   both_refused : {n : ℕ} {w w' : List Float} → EqualAnswer kind (Refused n) w (Refused n) w'
 
+-- two answers of updates by several compasses are equal: both the same reading of as many tried, with a NIS that is equal as a number; or both none of
+-- as many; or both refused with the same number
+pub data EqualChoice : CompassesAnswer → CompassesAnswer → Type 0 where
+  both_chosen : {i k : ℕ} {x x' : Float} → EqualNumber x x' → EqualChoice (compasses.Chosen i x k) (compasses.Chosen i x' k)
+  both_none : {k : ℕ} → EqualChoice (compasses.None k) (compasses.None k)
+  both_compasses_refused : {n : ℕ} → EqualChoice (compasses.Refused n) (compasses.Refused n)
+
+-- two answers to a call, by what was called
+pub data EqualCallAnswer : Call → CallAnswer → CallAnswer → Type 0 where
+  to_kind : {kind : Kind} {v w w' : List Float} {a b : Answer} → EqualAnswer kind a w b w' → EqualCallAnswer (kind_call kind v) (kind_answer a w) (kind_answer b w')
+  to_compasses : {r v : List Float} {budget : ℕ} {a b : CompassesAnswer} → EqualChoice a b
+      → EqualCallAnswer (compasses_call r v budget) (compasses_answer a) (compasses_answer b)
+
 -- two entries: the calls, the answers and the filters left are equal
 pub record EqualEntry (e f : LogEntry) : Type 0 where
   pub called : EqualCall e.called f.called
-  pub answer : EqualAnswer e.called.kind e.answer e.written f.answer f.written
+  pub answer : EqualCallAnswer e.called e.answer f.answer
   pub left : Equal e.left f.left
 
 -- two logs: the first filters are equal, and as many entries, each to the one at its place
@@ -205,7 +259,7 @@ pub record EqualLog (l m : Log) : Type 0 where
   pub entries : Forall₂ EqualEntry l.entries m.entries
 
 -- Any two logs are equal, the second read through a half turn about any reference axis (`about_x`, `about_y`, `about_z`, or `no_turn`), exactly when
--- their first filters and calls are. Logs hold every call, accepted or refused, and runs may have any length.
+-- their first filters and calls are. Logs hold every call, of every kind and by several compasses, accepted or refused, and runs may have any length.
 abbrev pub Demand3 : Type 0
 Demand3 =
     (s : Signs) (first first' : List Float) (calls calls' : List Call)

@@ -14,7 +14,7 @@ use Rattle.drifters_gcu.specs.Gcu.{beta, nis}
 use Rattle.drifters_kind.specs.declared.kind.Kind.{Kind}
 use Rattle.drifters_kind.specs.declared.kind.Kind.TheVariants.{Position, State, Scalar}
 use Rattle.drifters_demands.specs.Like.{signed, Signs, about_x, about_y, about_z, axis}
-use Rattle.drifters_demands.specs.Turn.{turn_call}
+use Rattle.drifters_demands.specs.Turn.{turn_numbers}
 
 -- the number of a pattern
 abbrev pub float : ℕ → Float
@@ -49,7 +49,7 @@ signs_are s x y z = numbers_are (signed (axis s 0) one ∷ signed (axis s 1) one
 
 -- the numbers of a call that is turned about the first axis
 abbrev pub turned_about_x : Kind → List Float → List Float
-turned_about_x kind v = (turn_call about_x (record { kind = kind; numbers = v })).numbers
+turned_about_x kind v = turn_numbers about_x kind v
 
 -- the norm of a vector with one number, of a pattern, for each component
 abbrev pub norm_of : ℕ → Float

@@ -4,10 +4,11 @@ use Rattle.std.specs.Float.{nan}
 use Rattle.std.specs.Float.Ieee.{unlike}
 use Rattle.drifters_matrix.specs.Matrix.{tab}
 use Rattle.drifters_kind.specs.Kind.{call_length}
-use Rattle.drifters_entry.specs.Log.{Call, LogEntry, Log}
+use Rattle.drifters_compasses.specs.Compasses.{north_noise_length}
 use Rattle.drifters_kind.specs.declared.kind.Kind.{Kind}
 use Rattle.drifters_kind.specs.declared.kind.Kind.TheVariants.{Propagate, Position, Velocity, Direction, General, State, Scalar}
 use Rattle.drifters_demands.specs.Like.{signed, Signs, axis}
+use Rattle.drifters_demands.specs.Log.{Call, kind_call, compasses_call, CallAnswer, kind_answer, compasses_answer, LogEntry, Log}
 
 -- ---- signs at each place of a run
 
@@ -31,6 +32,10 @@ row_signs s = matrix_signs 3 (axis s) plain
 abbrev pub noise_signs : Signs → ℕ → Bool
 noise_signs s = matrix_signs 3 (axis s) (axis s)
 
+-- the north and the noise of a direction, or of several compasses
+abbrev pub north_noise_signs : Signs → ℕ → Bool
+north_noise_signs s = then_signs 3 (axis s) (noise_signs s)
+
 -- a filter: rows of A; velocity, position, gamma and delta; rows of E; rows and columns of the covariance; gravity; alpha
 abbrev pub filter_signs : Signs → ℕ → Bool
 filter_signs s =
@@ -42,7 +47,7 @@ abbrev pub call_signs : Kind → Signs → ℕ → Bool
 call_signs Propagate s = plain
 call_signs Position s = then_signs 3 (axis s) (noise_signs s)
 call_signs Velocity s = then_signs 3 (axis s) (then_signs 3 plain (noise_signs s))
-call_signs Direction s = then_signs 3 plain (then_signs 3 (axis s) (noise_signs s))
+call_signs Direction s = then_signs 3 plain (north_noise_signs s)
 call_signs General s = then_signs 63 (matrix_signs 21 (axis s) (axis s)) (then_signs 3 (axis s) (noise_signs s))
 call_signs State s = plain
 call_signs Scalar s = then_signs 21 (axis s) plain
@@ -57,18 +62,24 @@ state_signs s = then_signs 9 (row_signs s) (then_signs 6 (axis s) plain)
 unfoldable pub turned : (ℕ → Bool) → List Float → List Float
 turned σ v = tab (length v) (λ i. signed (σ i) (get_or v i nan))
 
--- a call: its numbers as far as its kind has them; places past these stay
-abbrev pub turn_call : Signs → Call → Call
-turn_call s c = record { kind = c.kind; numbers = turned (then_signs (call_length c.kind) (call_signs c.kind s) plain) c.numbers }
+-- the numbers of a call of a kind, as far as the kind has them; places past these stay
+abbrev pub turn_numbers : Signs → Kind → List Float → List Float
+turn_numbers s kind v = turned (then_signs (call_length kind) (call_signs kind s) plain) v
 
--- a call with its answer, what it wrote and the filter left; NIS and refusals do not change
+-- a call; of several compasses north and noise turn, in the same way, and the readings do not
+abbrev pub turn_call : Signs → Call → Call
+turn_call s (kind_call kind v) = kind_call kind (turn_numbers s kind v)
+turn_call s (compasses_call readings north_noise budget) =
+    compasses_call readings (turned (then_signs north_noise_length (north_noise_signs s) plain) north_noise) budget
+
+-- an answer: what a state call wrote; NIS, refusals, the index of the reading that was applied and how many were tried do not change
+abbrev pub turn_answer : Signs → CallAnswer → CallAnswer
+turn_answer s (kind_answer a written) = kind_answer a (turned (state_signs s) written)
+turn_answer s (compasses_answer a) = compasses_answer a
+
+-- a call with its answer and the filter left
 abbrev pub turn_entry : Signs → LogEntry → LogEntry
-turn_entry s e = record {
-  called = turn_call s e.called;
-  answer = e.answer;
-  written = turned (state_signs s) e.written;
-  left = turned (filter_signs s) e.left;
-}
+turn_entry s e = record { called = turn_call s e.called; answer = turn_answer s e.answer; left = turned (filter_signs s) e.left }
 
 -- a log
 abbrev pub turn_log : Signs → Log → Log

@@ -1,12 +1,12 @@
 -- The seven kinds of call and the start, on lent runs: their lengths, their answers, and every lent number afterwards. Definitions only.
 use Rattle.std.specs.Prelude.{ℕ, ◌+◌, Bool, ◌&&◌, cond, List, [], eqb, length, get_or, Float, Option, Some, None}
 use Rattle.std.specs.Float.{nan}
-use Rattle.drifters_matrix.specs.Matrix.{all_finite}
+use Rattle.drifters_matrix.specs.Matrix.{zeros, all_finite}
 use Rattle.drifters_eqf.specs.Answer.{Answer, Nis, Fine, Refused, length_refusal, blank_refusal, range_refusal, null_refusal, values_of}
 use Rattle.drifters_lie.specs.Lie.{vec3_at}
 use Rattle.drifters_covariance.specs.Covariance.{input_at}
 use Rattle.drifters_eqf.specs.Filter.{Answered, new, nav_state, propagate, Measurement, update_by, measured_position, measured_velocity, measured_direction}
-use Rattle.drifters_kind.specs.Kind.{form_of}
+use Rattle.drifters_kind.specs.Kind.{form_of, written_length}
 use Rattle.drifters_kind.specs.declared.kind.Form.{Form}
 use Rattle.drifters_entry.specs.Layout.{sigma_place, gravity_place, filter_length, start_length, part, from_run, to_run, state_from_run, state_to_run}
 use Rattle.drifters_symmetry.specs.declared.lift.Input.{Input}
@@ -104,6 +104,10 @@ call kind run v written =
     (range_checked (performed (request_of kind (from_run run) v) (from_run run) run written) run written)
     (refused blank_refusal run written))
     (refused length_refusal run written)
+
+-- a call of a kind with the numbers v, a state written over zeros
+abbrev pub outcome_on : List Float → Kind → List Float → Outcome
+outcome_on run kind v = call kind run v (zeros (written_length kind))
 
 -- a filter's run from the numbers of a start
 unfoldable pub started : List Float → List Float

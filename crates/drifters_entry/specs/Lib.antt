@@ -1,5 +1,4 @@
--- What a reader must believe of the calls on lent runs: the filter as a run, what a call of each kind gives, and logs of calls.
+-- What a reader must believe of the calls on lent runs: the filter as a run, and what a call of each kind gives.
 pub mod Layout
 pub mod Entry
 pub mod Asked
-pub mod Log

@@ -6,6 +6,7 @@ mod readings;
 
 use calls::{replay, replay_files};
 use readings::{print_lengths, print_sheet};
+use replay_lists::compasses::replay_compasses;
 use replay_lists::leaves::replay_leaves;
 use replay_lists::starts::replay_starts;
 use replay_lists::tally::Tally;
@@ -87,6 +88,7 @@ fn main(rt: HostRuntime) -> io::Result<()> {
     let calls = replay_calls(&rt)?;
     let all = calls + replay_starts(&rt, "starts", "starts.bin")?;
     println!(rt; "all calls: {all}")?;
+    replay_compasses(&rt, "compasses", "compasses.bin")?;
     replay_leaves(&rt)?;
     print_lengths(&rt)?;
     print_sheets(&rt)?;

@@ -1,5 +1,4 @@
-//! Records the original's answers for the programs `replay` and `replay_compasses`: `record FOLDER COMPASSES` writes the data files of the first to
-//! FOLDER and that of the second to COMPASSES. crates/replay/README.md tells what each has.
+//! Records the original's answers for the program `replay`: `record FOLDER` writes its data files to FOLDER. crates/replay/README.md tells what each has.
 mod compass_cases;
 mod compasses;
 mod leaves;
@@ -38,7 +37,7 @@ fn write_counts(folder: &Path) {
 }
 
 fn main() {
-    let (folder, compasses_folder) = env::args().nth(1).zip(env::args().nth(2)).expect("record FOLDER COMPASSES");
+    let folder = env::args().nth(1).expect("record FOLDER");
     let folder = Path::new(&folder);
     let mut all = Tally::default();
     for list in lists::all().iter().chain(&limit::all()).chain([&null::list()]) {
@@ -52,7 +51,7 @@ fn main() {
     all.print("all sheets");
     all.expect_each_refusal();
     write(folder, "starts.bin", &starts::all());
-    write(Path::new(&compasses_folder), "compasses.bin", &compasses::all());
+    write(folder, "compasses.bin", &compasses::all());
     for (name, bytes) in leaves::all() {
         write(folder, &format!("{name}.bin"), &bytes);
     }

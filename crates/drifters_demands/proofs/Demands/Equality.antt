@@ -10,7 +10,7 @@ use Rattle.drifters_kind.specs.Kind.{written_length}
 use Rattle.drifters_kind.specs.declared.kind.Kind.{Kind}
 use Rattle.drifters_eqf.specs.Answer.{Answer}
 use Rattle.drifters_demands.specs.Like.{unsigned_zero, signed}
-use Rattle.drifters_demands.specs.Turn.{turned}
+use Rattle.drifters_demands.specs.Turn.{plain, turned}
 use Rattle.drifters_demands.specs.Demands.{EqualNumber, same_bits, both_zeros, both_nan, Equal, EqualAnswer, both_ok, both_nis, both_refused}
 use Rattle.drifters_demands.proofs.Signs.Like.{fin_zero, respects, is_zero, exact}
 use Rattle.drifters_demands.proofs.Signs.Compare.{eq_is_zero}
@@ -62,6 +62,10 @@ equal_turned {σ} {a} {b} h = record {
     };
   };
 }
+
+-- runs that do not turn
+pub equal_plain : {a b : List Float} → Equal a b → Turned plain a b
+equal_plain {a} {b} h = record { size = h.size; alike = record { entry = λ i I. record { same = same_of_equal (h.number i I) } } }
 
 -- ---- answers, the second read through a turn
 pub equal_answer : {kind : Kind} {σ : ℕ → Bool} {a b : Answer} {w w' : List Float} → length w ≡ written_length kind → LikeAnswer a b → Turned σ w w'

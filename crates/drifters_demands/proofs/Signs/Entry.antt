@@ -46,7 +46,7 @@ turned_zeros n = record {
 like_take : {σ : ℕ → Bool} {n : ℕ} {a b : List Float} → LikeList σ n a b → LikeList σ n (take n a) (take n b)
 like_take {n} {a} {b} h = record { entry = λ i I. rw (get_or-take n a i nan I, get_or-take n b i nan I) (h.entry i I) }
 
-turned_finite : {σ : ℕ → Bool} {a b : List Float} → Turned σ a b → all_finite a ≡ all_finite b
+pub turned_finite : {σ : ℕ → Bool} {a b : List Float} → Turned σ a b → all_finite a ≡ all_finite b
 turned_finite h = like_all_finite_list h.alike refl (sym h.size)
 
 -- ---- a filter, and an estimate, as runs

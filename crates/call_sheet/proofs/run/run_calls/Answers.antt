@@ -10,14 +10,14 @@ use lib.Seq.{drop-drop}
 use lib.Ieee.{Float}
 use Rattle.std.proofs.lemmas.Option.{same_Some}
 use Rattle.drifters_kind.specs.Kind.{call_length}
-use Rattle.drifters_entry.specs.Log.{outcome_on, entries_from}
+use Rattle.drifters_entry.specs.Entry.{Outcome, outcome_on}
 use Rattle.drifters_eqf.specs.Answer.{Answer}
 use Rattle.drifters_kind.specs.declared.kind.Kind.{Kind}
 use Rattle.drifters_kind.specs.declared.kind.Kind.TheVariants.{Propagate}
 use Rattle.little_endian.specs.Bytes.{placed}
 use Rattle.call_sheet.specs.Sheet.{SheetCall, sheet_call, is_some, calls_in}
-use Rattle.call_sheet.specs.Text.{call_of, line_text, lines_text, lines_of}
-use Rattle.call_sheet.proofs.Lines.{lines_on, Taken, calls_next}
+use Rattle.call_sheet.specs.Text.{numbers_of, line_text, lines_text, lines_of}
+use Rattle.call_sheet.proofs.Lines.{Taken, calls_next}
 use Rattle.call_sheet.proofs.SheetLayout.{some_found}
 use Rattle.little_endian.proofs.Placed.{put_none, put_then}
 use Rattle.call_sheet.proofs.run.run_calls.Invariants.{Made}
@@ -43,11 +43,11 @@ none_made run kinds numbers text h =
 -- all are made
 all_made : {run₀ run : List Float} {kinds : List Kind} {numbers text₀ text : List ℕ} {at len i : ℕ} (m : Made run₀ kinds numbers text₀ run text at len i)
     → length kinds ≤ i → m.lines ≡ lines_of run₀ (calls_in kinds numbers)
-unfolding calls_in lines_text entries_from
+unfolding calls_in lines_text
 all_made {run₀} {run} {kinds} {numbers} {at = at} {i = i} m h =
     let none_left : drop i kinds ≡ [] = drop_of_length-le kinds h in
     let empty : m.left ≡ [] = sym (same_Some [] m.left (ap (λ (ks : List Kind). calls_in ks (drop at numbers)) (sym none_left) ∙ m.is-left)) in
-    sym (m.all ∙ ap (λ (cs : List SheetCall). m.lines ++ lines_on (i + 1) run cs) empty ∙ append-nil m.lines)
+    sym (m.all ∙ ap (λ (cs : List SheetCall). m.lines ++ lines_text (i + 1) run cs) empty ∙ append-nil m.lines)
 
 -- the kind of the next call
 abbrev kind_next : List Kind → ℕ → Kind
@@ -67,8 +67,8 @@ next-within {numbers = numbers} {at = at} m h e = omega (arith, (next-left m h).
 record Turn (numbers : List ℕ) (run : List Float) (text : List ℕ) (at len i : ℕ) (kind : Kind) (n : ℕ) (answer : Answer)
     (run' : List Float) (text' : List ℕ) (len' : ℕ) : Type 0 where
   is-length : n ≡ call_length kind
-  is-answer : answer ≡ (outcome_on run (call_of (sheet_call kind (take (at + n - at) (drop at numbers))))).answer
-  is-run : run' ≡ (outcome_on run (call_of (sheet_call kind (take (at + n - at) (drop at numbers))))).run
+  is-answer : answer ≡ (outcome_on run kind (numbers_of (take (at + n - at) (drop at numbers)))).answer
+  is-run : run' ≡ (outcome_on run kind (numbers_of (take (at + n - at) (drop at numbers)))).run
   is-text : text' ≡ placed text len (line_text (i + 1) kind answer)
   is-end : len' ≡ len + length (line_text (i + 1) kind answer)
   short : len' ≤ len + 23
@@ -79,14 +79,15 @@ record Turn (numbers : List ℕ) (run : List Float) (text : List ℕ) (at len i 
 one-made : {run₀ run run' : List Float} {kinds : List Kind} {numbers text₀ text text' : List ℕ} {at len len' i n : ℕ} {answer : Answer}
     → Made run₀ kinds numbers text₀ run text at len i → i < length kinds → Turn numbers run text at len i (kind_next kinds i) n answer run' text' len'
     → Made run₀ kinds numbers text₀ run' text' (at + n) len' (i + 1)
-unfolding lines_text entries_from
+unfolding lines_text
 one-made {run₀} {run} {run'} {kinds} {numbers} {text₀} {text} {text'} {at} {len} {len'} {i} {n} {answer} m h t =
     let kind = kind_next kinds i in
     let next = next-left m h in
     let part : at + n - at ≡ call_length kind = omega arith in
-    let is-called : sheet_call kind (take (at + n - at) (drop at numbers)) ≡ sheet_call kind (take (call_length kind) (drop at numbers)) = λ j. sheet_call kind (take (part j) (drop at numbers)) in
-    let is-answer = t.is-answer ∙ ap (λ (c : SheetCall). (outcome_on run (call_of c)).answer) is-called in
-    let is-run = t.is-run ∙ ap (λ (c : SheetCall). (outcome_on run (call_of c)).run) is-called in
+    let outcome : outcome_on run kind (numbers_of (take (at + n - at) (drop at numbers))) ≡ outcome_on run kind (numbers_of (take (call_length kind) (drop at numbers))) =
+    λ j. outcome_on run kind (numbers_of (take (part j) (drop at numbers))) in
+    let is-answer = t.is-answer ∙ ap (λ (o : Outcome). o.answer) outcome in
+    let is-run = t.is-run ∙ ap (λ (o : Outcome). o.run) outcome in
     let line = line_text (i + 1) kind answer in
     let bits : drop (at + n) numbers ≡ drop (call_length kind) (drop at numbers) = ap (λ (k : ℕ). drop (at + k) numbers) t.is-length ∙ sym (drop-drop _ at numbers) in
     record {
@@ -100,9 +101,9 @@ one-made {run₀} {run} {run'} {kinds} {numbers} {text₀} {text} {text'} {at} {
       left = next.rest;
       is-left = ap (calls_in (drop (i + 1) kinds)) bits ∙ next.after;
       all =
-          m.all ∙ ap (λ (cs : List SheetCall). m.lines ++ lines_on (i + 1) run cs) (sym next.is)
+          m.all ∙ ap (λ (cs : List SheetCall). m.lines ++ lines_text (i + 1) run cs) (sym next.is)
           ∙ sym (append_assoc m.lines _ _)
-          ∙ sym (λ j. m.lines ++ line_text (i + 1) kind (is-answer j) ++ lines_on (i + 1 + 1) (is-run j) next.rest);
+          ∙ sym (λ j. m.lines ++ line_text (i + 1) kind (is-answer j) ++ lines_text (i + 1 + 1) (is-run j) next.rest);
     }
 
 pub slice_bounds-run_call-end : goal.slice_bounds-run_call-end

@@ -7,8 +7,7 @@ use lib.Ieee.{Float}
 use Rattle.std.specs.Prelude.{Some}
 use Rattle.drifters_kind.specs.declared.kind.Kind.{Kind}
 use Rattle.call_sheet.specs.Sheet.{SheetCall, calls_in}
-use Rattle.call_sheet.specs.Text.{lines_of}
-use Rattle.call_sheet.proofs.Lines.{lines_on}
+use Rattle.call_sheet.specs.Text.{lines_text, lines_of}
 use Rattle.little_endian.proofs.Placed.{Put}
 use Rattle.call_sheet.proofs.run.run_calls.Given as goal
 
@@ -23,7 +22,7 @@ pub record Made (run₀ : List Float) (kinds : List Kind) (numbers text₀ : Lis
   pub written : Put text₀ 0 lines text len
   pub left : List SheetCall
   pub is-left : calls_in (drop i kinds) (drop at numbers) ≡ Some left
-  pub all : lines_of run₀ (calls_in kinds numbers) ≡ lines ++ lines_on (i + 1) run left
+  pub all : lines_of run₀ (calls_in kinds numbers) ≡ lines ++ lines_text (i + 1) run left
 
 abbrev pub invariant-loop-i : goal.invariant-loop-i
 invariant-loop-i l = Made l.initial.run l.kinds l.numbers l.initial.text l.run l.text l.at l.length l.i

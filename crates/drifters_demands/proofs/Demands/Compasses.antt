@@ -1,0 +1,154 @@
+-- What the checks of an update by several compasses decide, and what it then chooses. Assumes nothing.
+use mathlib.Core.Path.{◌≡◌, refl, sym, ap, ◌∙◌, subst}
+use mathlib.Core.Bool.{Bool, true, false, not, ◌&&◌, cond, true≢false}
+use mathlib.Core.List.{List, []}
+use Prim.Native.Nat.{ℕ, suc}
+use native.Mathlib.Nat.{suc-ne-zero}
+use native.Mathlib.Omega.{arith}
+use lib.ListN.{length}
+use lib.Ieee.{Float}
+use Rattle.std.specs.Prelude.{Option, Some, None}
+use Rattle.std.proofs.lemmas.Bool.{and_parts}
+use Rattle.drifters_matrix.specs.Matrix.{all_finite}
+use Rattle.drifters_lie.specs.Lie.{vec3_at}
+use Rattle.drifters_eqf.specs.Answer.{length_refusal, blank_refusal, number_of, Nis}
+use Rattle.drifters_eqf.specs.Filter.{Measurement, measured_direction}
+use Rattle.drifters_eqf.specs.declared.filter.EqFilter.{EqFilter}
+use Rattle.drifters_entry.specs.Layout.{part, from_run}
+use Rattle.drifters_entry.specs.Entry.{Outcome, finite_outcome, direction_request, call}
+use Rattle.drifters_kind.specs.declared.kind.Kind.TheVariants.{Direction, State}
+use Rattle.drifters_kind.specs.Kind.{kind_number}
+use Rattle.drifters_compasses.specs.Compasses.{count_of, compasses_fit, tried, direction_numbers, attempt, BestTry, nothing, reading, best_of, CompassesAnswer, CompassesOutcome, compasses_outcome, selected, update_compasses, compasses_number, compasses_values}
+use Rattle.drifters_compasses.specs.Compasses as compasses
+use Rattle.drifters_demands.specs.Demands.{first_of, checks, compasses_checks, FiniteMirrored, CheckedCompasses, Chooses, accepted_outcome}
+use Rattle.drifters_demands.proofs.Demands.Decision.{Decision, refuses, accepts, is_refusal, accepted_call, checked, call_decision}
+use Rattle.drifters_demands.proofs.Demands.Mirrored.{call_mirrored}
+use Rattle.drifters_demands.proofs.Demands.Choice.{TryAnswer, accepted, passed_over, is_chosen, finite_value, chooses}
+
+abbrev is_refused : CompassesAnswer → Bool
+is_refused (compasses.Chosen i x k) = false
+is_refused (compasses.None k) = false
+is_refused (compasses.Refused n) = true
+
+-- ---- a try
+
+measured_answer : (m : Option Measurement) (noise : List Float) (alpha : Float) (f : EqFilter) (run : List Float)
+    → is_refusal (accepted_outcome (direction_request m noise alpha) f run []).answer ≡ false → finite_outcome (accepted_outcome (direction_request m noise alpha) f run []) ≡ true
+    → TryAnswer (accepted_outcome (direction_request m noise alpha) f run []).answer
+unfolding all_finite
+measured_answer None noise alpha f run h e = absurd (true≢false h)
+measured_answer (Some m) noise alpha f run h e = accepted (and_parts _ true (and_parts _ _ e).0).0
+
+direction_answer : (run v : List Float) → TryAnswer (call Direction run v []).answer
+direction_answer run v = by_decision (call_decision Direction run v [])
+  where
+    by_decision : {first : ℕ} {o : Outcome} → Decision run [] (accepted_call Direction run v []) first o → TryAnswer o.answer
+    by_decision (refuses n) = passed_over
+    by_decision (accepts h e) =
+        let f = from_run run in
+        measured_answer (measured_direction f.x (vec3_at v 0) (vec3_at v 3)) (part v 6 9) f.alpha f run h e
+
+not_state : Direction ≡ State → ⊥
+not_state e = omega (arith, ap kind_number e)
+
+-- a try that is accepted leaves a finite filter whose covariance mirrors
+try_mirrored : (run v : List Float) {x : Float} → (call Direction run v []).answer ≡ Nis x → FiniteMirrored (call Direction run v []).run
+try_mirrored run v e =
+    call_mirrored Direction run v [] not_state (sym (checked {checks = checks Direction run v []} (call_decision Direction run v [])).number ∙ ap number_of e)
+
+module _ (run readings north_noise : List Float) (budget : ℕ) where
+  -- how many are tried, and what comes of each
+  abbrev k : ℕ
+  k = tried budget (count_of (length readings))
+
+  abbrev tries : ℕ → Outcome
+  tries = attempt run readings north_noise
+
+  answered : (j : ℕ) → TryAnswer (tries j).answer
+  unfolding attempt
+  answered j = direction_answer run (direction_numbers readings north_noise j)
+
+  mirrored : (j : ℕ) {x : Float} → (tries j).answer ≡ Nis x → FiniteMirrored (tries j).run
+  unfolding attempt
+  mirrored j e = try_mirrored run (direction_numbers readings north_noise j) e
+
+  -- what the checks decide, by the number of the first that refuses: a refusal, or what the best try is
+  data Decided : ℕ → CompassesOutcome → Type 0 where
+    is_refused_by : (n : ℕ) → Decided (suc n) (compasses_outcome (compasses.Refused (suc n)) run)
+    is_selected : Decided 0 (selected k run (best_of tries k))
+
+  decided : Decided (first_of (compasses_checks run readings north_noise budget)) (update_compasses run readings north_noise budget)
+  unfolding first_of update_compasses
+  decided = by_tests (compasses_fit (length run) (length readings) (length north_noise) budget) (all_finite run && all_finite north_noise)
+    where
+      by_tests : (fit finite : Bool)
+          → Decided (cond (not fit) length_refusal (cond (not finite) blank_refusal 0))
+          (cond fit (cond finite (selected k run (best_of tries k)) (compasses_outcome (compasses.Refused blank_refusal) run)) (compasses_outcome (compasses.Refused length_refusal) run))
+      by_tests true true = is_selected
+      by_tests true false = is_refused_by 1
+      by_tests false finite = is_refused_by 0
+
+  -- ---- what is chosen
+
+  choice : Chooses k tries (selected k run (best_of tries k))
+  choice = chooses tries answered k run
+
+  pub compasses_choose : first_of (compasses_checks run readings north_noise budget) ≡ 0 → Chooses k tries (update_compasses run readings north_noise budget)
+  compasses_choose z = by_decision decided z
+    where
+      by_decision : {first : ℕ} {o : CompassesOutcome} → Decided first o → first ≡ 0 → Chooses k tries o
+      by_decision (is_refused_by n) z = absurd (suc-ne-zero n z)
+      by_decision is_selected z = choice
+
+  -- ---- what the best try comes to
+
+  selected_number : (b : BestTry) → compasses_number (selected k run b).answer ≡ 0
+  selected_number nothing = refl
+  selected_number (reading i x left) = refl
+
+  selected_not_refused : (b : BestTry) (n : ℕ) → (selected k run b).answer ≡ compasses.Refused n → ⊥
+  selected_not_refused nothing n e = true≢false (sym (ap is_refused e))
+  selected_not_refused (reading i x left) n e = true≢false (sym (ap is_refused e))
+
+  selected_none : (b : BestTry) (n : ℕ) → (selected k run b).answer ≡ compasses.None n → (selected k run b).run ≡ run
+  selected_none nothing n e = refl
+  selected_none (reading i x left) n e = absurd (true≢false (ap is_chosen e))
+
+  selected_chosen : (i n : ℕ) (x : Float) → (selected k run (best_of tries k)).answer ≡ compasses.Chosen i x n
+      → (all_finite (compasses_values (selected k run (best_of tries k)).answer) ≡ true) × FiniteMirrored (selected k run (best_of tries k)).run
+  unfolding all_finite
+  selected_chosen i n x e =
+      let s = ((choice.chosen i n x).0 e).1 in (
+        ap (λ (a : CompassesAnswer). all_finite (compasses_values a)) e ∙ ap (λ (b : Bool). b && true) (finite_value (answered i) s.accepted),
+        subst FiniteMirrored (sym (choice.left i n x e)) (mirrored i s.accepted),
+      )
+
+  pub compasses_checked : CheckedCompasses (compasses_checks run readings north_noise budget) run (update_compasses run readings north_noise budget)
+  compasses_checked = record {
+    number = number decided;
+    refusal = refusal decided;
+    accepted = accepted_there decided;
+    none = stays decided;
+    chosen = chosen decided;
+  }
+    where
+      number : {first : ℕ} {o : CompassesOutcome} → Decided first o → compasses_number o.answer ≡ first
+      number (is_refused_by n) = refl
+      number is_selected = selected_number (best_of tries k)
+
+      refusal : {first : ℕ} {o : CompassesOutcome} → Decided first o → (n : ℕ) → o.answer ≡ compasses.Refused n → o.run ≡ run
+      refusal (is_refused_by m) n e = refl
+      refusal is_selected n e = absurd (selected_not_refused (best_of tries k) n e)
+
+      accepted_there : {first : ℕ} {o : CompassesOutcome} → Decided first o → first ≡ 0 → (n : ℕ) → o.answer ≡ compasses.Refused n → ⊥
+      accepted_there (is_refused_by m) z n e = suc-ne-zero m z
+      accepted_there is_selected z n e = selected_not_refused (best_of tries k) n e
+
+      stays : {first : ℕ} {o : CompassesOutcome} → Decided first o → (n : ℕ) → o.answer ≡ compasses.None n → o.run ≡ run
+      stays (is_refused_by m) n e = refl
+      stays is_selected n e = selected_none (best_of tries k) n e
+
+      chosen : {first : ℕ} {o : CompassesOutcome} → Decided first o → (i n : ℕ) (x : Float) → o.answer ≡ compasses.Chosen i x n
+          → (all_finite (compasses_values o.answer) ≡ true) × FiniteMirrored o.run
+      chosen (is_refused_by m) i n x e = absurd (true≢false (sym (ap is_chosen e)))
+      chosen is_selected i n x e = selected_chosen i n x e
