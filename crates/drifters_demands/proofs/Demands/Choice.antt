@@ -11,12 +11,11 @@ use lib.Ieee.{Float, nan, inf, fin, lt, is_nan}
 use Rattle.std.specs.Float.{◌≤ᶠ◌, ◌<ᶠ◌, NotNan}
 use Rattle.std.proofs.lemmas.Float as float
 use Rattle.drifters_real.specs.Real.{is_finite}
-use Rattle.drifters_eqf.specs.Answer.{Answer, Nis, Fine, Refused}
+use Rattle.drifters_eqf.specs.Answer.{Answer, Nis, Refused}
 use Rattle.drifters_entry.specs.Entry.{Outcome}
 use Rattle.drifters_compasses.specs.Compasses.{BestTry, nothing, reading, better_by, best_of, selected, CompassesAnswer}
 use Rattle.drifters_compasses.specs.Compasses as compasses
 use Rattle.drifters_demands.specs.Demands.{EarliestSmallest, Chooses}
-use Rattle.drifters_demands.proofs.Demands.Decision.{is_refusal}
 
 -- what a try answers: a finite normalised innovation squared, or a refusal
 pub data TryAnswer : Answer → Type 0 where
@@ -25,16 +24,14 @@ pub data TryAnswer : Answer → Type 0 where
 
 -- ---- answers
 
-abbrev value : Answer → Float
-value (Nis x) = x
-value Fine = nan
-value (Refused n) = nan
-
 nis_not_refused : {A : Type 0} {a : Answer} {x : Float} {n : ℕ} → a ≡ Nis x → a ≡ Refused n → A
-nis_not_refused e f = absurd (true≢false (sym (ap is_refusal (sym e ∙ f))))
+nis_not_refused e f = absurd (cc)
+
+same_nis : {a : Answer} {x y : Float} → a ≡ Nis x → a ≡ Nis y → x ≡ y
+same_nis e f = cc
 
 pub finite_value : {a : Answer} {x : Float} → TryAnswer a → a ≡ Nis x → is_finite x ≡ true
-finite_value (accepted {x = y} h) e = subst (λ (z : Float). is_finite z ≡ true) (ap value e) h
+finite_value (accepted h) e = subst (λ (z : Float). is_finite z ≡ true) (same_nis refl e) h
 finite_value passed_over e = nis_not_refused e refl
 
 not_nan : (x : Float) → is_finite x ≡ true → NotNan x
@@ -42,27 +39,6 @@ unfolding is_finite is_nan
 not_nan nan h = absurd (true≢false (sym h))
 not_nan (inf s) h = tt
 not_nan (fin s m e) h = tt
-
--- the parts of an answer of several compasses
-abbrev pub is_chosen : CompassesAnswer → Bool
-is_chosen (compasses.Chosen i x k) = true
-is_chosen (compasses.None k) = false
-is_chosen (compasses.Refused n) = false
-
-abbrev index : CompassesAnswer → ℕ
-index (compasses.Chosen i x k) = i
-index (compasses.None k) = 0
-index (compasses.Refused n) = 0
-
-abbrev nis : CompassesAnswer → Float
-nis (compasses.Chosen i x k) = x
-nis (compasses.None k) = nan
-nis (compasses.Refused n) = nan
-
-abbrev how_many : CompassesAnswer → ℕ
-how_many (compasses.Chosen i x k) = k
-how_many (compasses.None k) = k
-how_many (compasses.Refused n) = 0
 
 module _ (tries : ℕ → Outcome) (answered : (j : ℕ) → TryAnswer (tries j).answer) where
   abbrev answers : ℕ → Answer
@@ -90,7 +66,7 @@ module _ (tries : ℕ → Outcome) (answered : (j : ℕ) → TryAnswer (tries j)
 
   -- what a number is at most, that of a try is
   at_most : (x : Float) {k : ℕ} {z : Float} → answers k ≡ Nis z → x ≤ᶠ z → (y : Float) → answers k ≡ Nis y → x ≤ᶠ y
-  at_most x e l y a = subst (λ (w : Float). x ≤ᶠ w) (ap value (sym e ∙ a)) l
+  at_most x e l y a = subst (λ (w : Float). x ≤ᶠ w) (same_nis e a) l
 
   -- try k is not smaller than the best before
   still : {i : ℕ} {x : Float} (k : ℕ) → EarliestSmallest answers k i x → ((y : Float) → answers k ≡ Nis y → x ≤ᶠ y) → EarliestSmallest answers (suc k) i x
@@ -158,7 +134,7 @@ module _ (tries : ℕ → Outcome) (answered : (j : ℕ) → TryAnswer (tries j)
           → compasses.Chosen i x k ≡ compasses.Chosen j y n
       unique {i} {j} {n} {x} {y} s h =
           let same : i ≡ j = by_order (dec_le i j) in
-          let nis : x ≡ y = ap value (sym s.accepted ∙ ap answers same ∙ h.1.accepted) in
+          let nis : x ≡ y = same_nis s.accepted (ap answers same ∙ h.1.accepted) in
           λ t. compasses.Chosen (same t) (nis t) (sym h.0 t)
         where
           by_order : Dec (i ≤ j) → i ≡ j
@@ -167,12 +143,12 @@ module _ (tries : ℕ → Outcome) (answered : (j : ℕ) → TryAnswer (tries j)
 
       by_best : (b : BestTry) → IsBest k b → Chooses k tries (selected k run b)
       by_best nothing (no_best all) = record {
-        chosen = λ i n x. (λ e. absurd (true≢false (sym (ap is_chosen e))), λ h. nis_not_refused h.1.accepted (all i h.1.within).1);
-        left = λ i n x e. absurd (true≢false (sym (ap is_chosen e)));
-        none = λ n. (λ e. (sym (ap how_many e), all), λ h. ap compasses.None (sym h.0));
+        chosen = λ i n x. (λ e. absurd (cc), λ h. nis_not_refused h.1.accepted (all i h.1.within).1);
+        left = λ i n x e. absurd (cc);
+        none = λ n. (λ e. (cc, all), λ h. ap compasses.None (sym h.0));
       }
       by_best (reading i x left) (one_best s l) = record {
-        chosen = λ j n y. (λ e. (sym (ap how_many e), subst₂ (EarliestSmallest answers k) (ap index e) (ap nis e) s), λ h. unique s h);
-        left = λ j n y e. l ∙ ap (λ (m : ℕ). (tries m).run) (ap index e);
-        none = λ n. (λ e. absurd (true≢false (ap is_chosen e)), λ h. nis_not_refused s.accepted (h.1 i s.within).1);
+        chosen = λ j n y. (λ e. (cc, subst₂ (EarliestSmallest answers k) (cc) (cc) s), λ h. unique s h);
+        left = λ j n y e. l ∙ ap (λ (m : ℕ). (tries m).run) (cc);
+        none = λ n. (λ e. absurd (cc), λ h. nis_not_refused s.accepted (h.1 i s.within).1);
       }

@@ -4,7 +4,6 @@ use mathlib.Core.Bool.{Bool, true, false, not, ◌&&◌, cond, true≢false}
 use mathlib.Core.List.{List, []}
 use Prim.Native.Nat.{ℕ, suc}
 use native.Mathlib.Nat.{suc-ne-zero}
-use native.Mathlib.Omega.{arith}
 use lib.ListN.{length}
 use lib.Ieee.{Float}
 use Rattle.std.specs.Prelude.{Option, Some, None}
@@ -17,18 +16,12 @@ use Rattle.drifters_eqf.specs.declared.filter.EqFilter.{EqFilter}
 use Rattle.drifters_entry.specs.Layout.{part, from_run}
 use Rattle.drifters_entry.specs.Entry.{Outcome, finite_outcome, direction_request, call}
 use Rattle.drifters_kind.specs.declared.kind.Kind.TheVariants.{Direction, State}
-use Rattle.drifters_kind.specs.Kind.{kind_number}
 use Rattle.drifters_compasses.specs.Compasses.{count_of, compasses_fit, tried, direction_numbers, attempt, BestTry, nothing, reading, best_of, CompassesAnswer, CompassesOutcome, compasses_outcome, selected, update_compasses, compasses_number, compasses_values}
 use Rattle.drifters_compasses.specs.Compasses as compasses
 use Rattle.drifters_demands.specs.Demands.{first_of, checks, compasses_checks, FiniteMirrored, CheckedCompasses, Chooses, accepted_outcome}
 use Rattle.drifters_demands.proofs.Demands.Decision.{Decision, refuses, accepts, is_refusal, accepted_call, checked, call_decision}
 use Rattle.drifters_demands.proofs.Demands.Mirrored.{call_mirrored}
-use Rattle.drifters_demands.proofs.Demands.Choice.{TryAnswer, accepted, passed_over, is_chosen, finite_value, chooses}
-
-abbrev is_refused : CompassesAnswer → Bool
-is_refused (compasses.Chosen i x k) = false
-is_refused (compasses.None k) = false
-is_refused (compasses.Refused n) = true
+use Rattle.drifters_demands.proofs.Demands.Choice.{TryAnswer, accepted, passed_over, finite_value, chooses}
 
 -- ---- a try
 
@@ -49,7 +42,7 @@ direction_answer run v = by_decision (call_decision Direction run v [])
         measured_answer (measured_direction f.x (vec3_at v 0) (vec3_at v 3)) (part v 6 9) f.alpha f run h e
 
 not_state : Direction ≡ State → ⊥
-not_state e = omega (arith, ap kind_number e)
+not_state e = cc
 
 -- a try that is accepted leaves a finite filter whose covariance mirrors
 try_mirrored : (run v : List Float) {x : Float} → (call Direction run v []).answer ≡ Nis x → FiniteMirrored (call Direction run v []).run
@@ -74,7 +67,7 @@ module _ (run readings north_noise : List Float) (budget : ℕ) where
 
   -- what the checks decide, by the number of the first that refuses: a refusal, or what the best try is
   data Decided : ℕ → CompassesOutcome → Type 0 where
-    is_refused_by : (n : ℕ) → Decided (suc n) (compasses_outcome (compasses.Refused (suc n)) run)
+    is_refused : (n : ℕ) → Decided (suc n) (compasses_outcome (compasses.Refused (suc n)) run)
     is_selected : Decided 0 (selected k run (best_of tries k))
 
   decided : Decided (first_of (compasses_checks run readings north_noise budget)) (update_compasses run readings north_noise budget)
@@ -85,70 +78,51 @@ module _ (run readings north_noise : List Float) (budget : ℕ) where
           → Decided (cond (not fit) length_refusal (cond (not finite) blank_refusal 0))
           (cond fit (cond finite (selected k run (best_of tries k)) (compasses_outcome (compasses.Refused blank_refusal) run)) (compasses_outcome (compasses.Refused length_refusal) run))
       by_tests true true = is_selected
-      by_tests true false = is_refused_by 1
-      by_tests false finite = is_refused_by 0
+      by_tests true false = is_refused 1
+      by_tests false finite = is_refused 0
 
   -- ---- what is chosen
-
-  choice : Chooses k tries (selected k run (best_of tries k))
-  choice = chooses tries answered k run
 
   pub compasses_choose : first_of (compasses_checks run readings north_noise budget) ≡ 0 → Chooses k tries (update_compasses run readings north_noise budget)
   compasses_choose z = by_decision decided z
     where
       by_decision : {first : ℕ} {o : CompassesOutcome} → Decided first o → first ≡ 0 → Chooses k tries o
-      by_decision (is_refused_by n) z = absurd (suc-ne-zero n z)
-      by_decision is_selected z = choice
+      by_decision (is_refused n) z = absurd (suc-ne-zero n z)
+      by_decision is_selected z = chooses tries answered k run
 
-  -- ---- what the best try comes to
+  -- ---- what the checks and the best try come to
 
-  selected_number : (b : BestTry) → compasses_number (selected k run b).answer ≡ 0
-  selected_number nothing = refl
-  selected_number (reading i x left) = refl
+  abbrev Checked : CompassesOutcome → Type 0
+  Checked o = CheckedCompasses (compasses_checks run readings north_noise budget) run o
 
-  selected_not_refused : (b : BestTry) (n : ℕ) → (selected k run b).answer ≡ compasses.Refused n → ⊥
-  selected_not_refused nothing n e = true≢false (sym (ap is_refused e))
-  selected_not_refused (reading i x left) n e = true≢false (sym (ap is_refused e))
-
-  selected_none : (b : BestTry) (n : ℕ) → (selected k run b).answer ≡ compasses.None n → (selected k run b).run ≡ run
-  selected_none nothing n e = refl
-  selected_none (reading i x left) n e = absurd (true≢false (ap is_chosen e))
-
-  selected_chosen : (i n : ℕ) (x : Float) → (selected k run (best_of tries k)).answer ≡ compasses.Chosen i x n
-      → (all_finite (compasses_values (selected k run (best_of tries k)).answer) ≡ true) × FiniteMirrored (selected k run (best_of tries k)).run
+  best_checked : first_of (compasses_checks run readings north_noise budget) ≡ 0 → (b : BestTry) → Chooses k tries (selected k run b) → Checked (selected k run b)
   unfolding all_finite
-  selected_chosen i n x e =
-      let s = ((choice.chosen i n x).0 e).1 in (
-        ap (λ (a : CompassesAnswer). all_finite (compasses_values a)) e ∙ ap (λ (b : Bool). b && true) (finite_value (answered i) s.accepted),
-        subst FiniteMirrored (sym (choice.left i n x e)) (mirrored i s.accepted),
-      )
-
-  pub compasses_checked : CheckedCompasses (compasses_checks run readings north_noise budget) run (update_compasses run readings north_noise budget)
-  compasses_checked = record {
-    number = number decided;
-    refusal = refusal decided;
-    accepted = accepted_there decided;
-    none = stays decided;
-    chosen = chosen decided;
+  best_checked e nothing c = record {
+    number = sym e;
+    refusal = λ n q. refl;
+    accepted = λ z n q. absurd (cc);
+    none = λ n q. refl;
+    chosen = λ i n x q. absurd (cc);
   }
+  best_checked e (reading i x left) c = record {
+    number = sym e;
+    refusal = λ n q. absurd (cc);
+    accepted = λ z n q. absurd (cc);
+    none = λ n q. absurd (cc);
+    chosen = λ j n y q.
+        let s = (c.chosen i k x).0 refl in
+        (ap (λ (b : Bool). b && true) (finite_value (answered i) s.1.accepted), subst FiniteMirrored (sym (c.left i k x refl)) (mirrored i s.1.accepted));
+  }
+
+  pub compasses_checked : Checked (update_compasses run readings north_noise budget)
+  compasses_checked = by_decision refl decided
     where
-      number : {first : ℕ} {o : CompassesOutcome} → Decided first o → compasses_number o.answer ≡ first
-      number (is_refused_by n) = refl
-      number is_selected = selected_number (best_of tries k)
-
-      refusal : {first : ℕ} {o : CompassesOutcome} → Decided first o → (n : ℕ) → o.answer ≡ compasses.Refused n → o.run ≡ run
-      refusal (is_refused_by m) n e = refl
-      refusal is_selected n e = absurd (selected_not_refused (best_of tries k) n e)
-
-      accepted_there : {first : ℕ} {o : CompassesOutcome} → Decided first o → first ≡ 0 → (n : ℕ) → o.answer ≡ compasses.Refused n → ⊥
-      accepted_there (is_refused_by m) z n e = suc-ne-zero m z
-      accepted_there is_selected z n e = selected_not_refused (best_of tries k) n e
-
-      stays : {first : ℕ} {o : CompassesOutcome} → Decided first o → (n : ℕ) → o.answer ≡ compasses.None n → o.run ≡ run
-      stays (is_refused_by m) n e = refl
-      stays is_selected n e = selected_none (best_of tries k) n e
-
-      chosen : {first : ℕ} {o : CompassesOutcome} → Decided first o → (i n : ℕ) (x : Float) → o.answer ≡ compasses.Chosen i x n
-          → (all_finite (compasses_values o.answer) ≡ true) × FiniteMirrored o.run
-      chosen (is_refused_by m) i n x e = absurd (true≢false (sym (ap is_chosen e)))
-      chosen is_selected i n x e = selected_chosen i n x e
+      by_decision : {first : ℕ} {o : CompassesOutcome} → first_of (compasses_checks run readings north_noise budget) ≡ first → Decided first o → Checked o
+      by_decision e (is_refused m) = record {
+        number = sym e;
+        refusal = λ n q. refl;
+        accepted = λ z n q. suc-ne-zero m (sym e ∙ z);
+        none = λ n q. refl;
+        chosen = λ i n x q. absurd (cc);
+      }
+      by_decision e is_selected = best_checked e (best_of tries k) (chooses tries answered k run)
