@@ -13,7 +13,7 @@ use Rattle.std.proofs.lemmas.Float as float
 use Rattle.drifters_real.specs.Real.{is_finite}
 use Rattle.drifters_eqf.specs.Answer.{Answer, Nis, Refused}
 use Rattle.drifters_entry.specs.Entry.{Outcome}
-use Rattle.drifters_compasses.specs.Compasses.{BestTry, nothing, reading, better_by, best_of, selected, CompassesAnswer}
+use Rattle.drifters_compasses.specs.Compasses.{BestTry, nothing, reading, better_by, best_of, selected}
 use Rattle.drifters_compasses.specs.Compasses as compasses
 use Rattle.drifters_demands.specs.Demands.{EarliestSmallest, Chooses}
 

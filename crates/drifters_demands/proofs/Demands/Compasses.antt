@@ -16,7 +16,7 @@ use Rattle.drifters_eqf.specs.declared.filter.EqFilter.{EqFilter}
 use Rattle.drifters_entry.specs.Layout.{part, from_run}
 use Rattle.drifters_entry.specs.Entry.{Outcome, finite_outcome, direction_request, call}
 use Rattle.drifters_kind.specs.declared.kind.Kind.TheVariants.{Direction, State}
-use Rattle.drifters_compasses.specs.Compasses.{count_of, compasses_fit, tried, direction_numbers, attempt, BestTry, nothing, reading, best_of, CompassesAnswer, CompassesOutcome, compasses_outcome, selected, update_compasses, compasses_number, compasses_values}
+use Rattle.drifters_compasses.specs.Compasses.{count_of, compasses_fit, tried, direction_numbers, attempt, BestTry, nothing, reading, best_of, CompassesOutcome, compasses_outcome, selected, update_compasses}
 use Rattle.drifters_compasses.specs.Compasses as compasses
 use Rattle.drifters_demands.specs.Demands.{first_of, checks, compasses_checks, FiniteMirrored, CheckedCompasses, Chooses, accepted_outcome}
 use Rattle.drifters_demands.proofs.Demands.Decision.{Decision, refuses, accepts, is_refusal, accepted_call, checked, call_decision}

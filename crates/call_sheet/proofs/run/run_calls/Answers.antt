@@ -15,7 +15,7 @@ use Rattle.drifters_eqf.specs.Answer.{Answer}
 use Rattle.drifters_kind.specs.declared.kind.Kind.{Kind}
 use Rattle.drifters_kind.specs.declared.kind.Kind.TheVariants.{Propagate}
 use Rattle.little_endian.specs.Bytes.{placed}
-use Rattle.call_sheet.specs.Sheet.{SheetCall, sheet_call, is_some, calls_in}
+use Rattle.call_sheet.specs.Sheet.{SheetCall, is_some, calls_in}
 use Rattle.call_sheet.specs.Text.{numbers_of, line_text, lines_text, lines_of}
 use Rattle.call_sheet.proofs.Lines.{Taken, calls_next}
 use Rattle.call_sheet.proofs.SheetLayout.{some_found}
