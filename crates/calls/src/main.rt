@@ -3,7 +3,7 @@
 #![tactic(auto)]
 
 use call_sheet::text::{MOST_ANSWER, answer_text};
-use drifters_compasses::compasses::{Tried, update_compasses};
+use drifters_compasses::compasses::{Best, Tried, update_compasses};
 use drifters_entry::entry::{FILTER_LENGTH, START_LENGTH, filter_call, nav_state, start};
 use drifters_eqf::answer::{Answer, Refusal};
 use drifters_kind::kind::{Kind, STATE_LENGTH};
@@ -28,28 +28,36 @@ fn name_of(kind: Kind) -> &'static str {
     }
 }
 
-// A line: what was called, and its answer, whose text is bytes and so is no part of a format.
-fn report(rt: &impl Print, called: &str, answer: Answer) -> io::Result<()> {
+// The end of a line: an answer, whose text is bytes and so is no part of a format.
+fn report_answer(rt: &impl Print, answer: Answer) -> io::Result<()> {
     let mut bytes = [0; MOST_ANSWER];
-    print!(rt; "{called} ")?;
     let length = answer_text(answer, &mut bytes);
     rt.write_all(&bytes[..length])?;
     rt.write_all(b"\n")
 }
 
+// A line: what was called, and its answer.
+fn report(rt: &impl Print, called: &str, answer: Answer) -> io::Result<()> {
+    print!(rt; "{called} ")?;
+    report_answer(rt, answer)
+}
+
 // A line of an update by several compasses: how many readings were tried, and the index and the answer of the one that was applied.
 fn report_compasses(rt: &impl Print, answer: Result<Tried, Refusal>) -> io::Result<()> {
-    let t = match answer {
-        Ok(t) => t,
-        Err(refusal) => return report(rt, "update_compasses", Err(refusal)),
-    };
-    print!(rt; "update_compasses tried {} applied ", t.tried)?;
-    match t.best {
-        Some(best) => {
-            print!(rt; "{}", best.index)?;
-            report(rt, "", Ok(Some(best.nis)))
+    match answer {
+        Ok(
+            Tried {
+                tried,
+                best: Some(Best { index, nis }),
+            },
+        ) => {
+            print!(rt; "update_compasses tried {tried} applied {index} ")?;
+            report_answer(rt, Ok(Some(nis)))
         }
-        None => rt.write_all(b"none\n"),
+        Ok(Tried { tried, best: None }) => {
+            println!(rt; "update_compasses tried {tried} applied none")
+        }
+        Err(refusal) => report(rt, "update_compasses", Err(refusal)),
     }
 }
 
@@ -130,7 +138,7 @@ fn direction_of_zeros() -> [f64; 15] {
     v
 }
 
-// An update by three compasses, as many of them as `budget` allows: one that points away, one of zeros, and the direction of `pair`.
+// An update by three compasses, as many of them as `budget` allows: one far from the direction of `pair`, one of zeros, and that direction.
 fn compasses(rt: &impl Print, run: &mut [f64], budget: usize) -> io::Result<()> {
     let pair = pair();
     let readings = [-0.5, 0.25, -0.1, 0.0, 0.0, 0.0, pair[0], pair[1], pair[2]];

@@ -4,7 +4,7 @@
 -- drifters_compasses is `update_compasses`; `read_sheet` and `run_sheet` of call_sheet leave what `read_into` and `sheet_text` say; square root, sine and
 -- cosine are those of drifters_real.
 use Rattle.std.specs.Prelude.{ℕ, ◌+◌, ◌*◌, ◌<◌, ◌≡◌, ◌↔◌, Bool, true, false, not, ◌&&◌, ◌||◌, cond, eqb, length, get_or, Float, Some, Err}
-use mathlib.Core.List.{List, [], ◌∷◌, map, Forall₂}
+use mathlib.Core.List.{List, [], ◌∷◌, ◌++◌, map, Forall₂}
 use Rattle.std.specs.Float.{nan, ◌≤ᶠ◌, ◌<ᶠ◌}
 use Rattle.std.specs.Float.Ieee.{eq, is_nan}
 use Rattle.drifters_real.specs.Scalar.{plus_zero}
@@ -18,15 +18,15 @@ use Rattle.drifters_cholesky.specs.Cholesky.{definite, entries_of}
 use Rattle.drifters_gcu.specs.Gcu.{nis}
 use Rattle.drifters_eqf.specs.Filter.{turn_fits, nav_state, half_step, full_step, propagated, raw_factor, inflated_factor, gain, correction, step, corrected}
 use Rattle.drifters_eqf.specs.declared.filter.EqFilter.{EqFilter}
-use Rattle.drifters_entry.specs.Layout.{filter_length, start_length, sigma_place, from_run, to_run, state_to_run}
+use Rattle.drifters_entry.specs.Layout.{filter_length, start_length, sigma_place, part, from_run, to_run, state_to_run}
 use Rattle.drifters_kind.specs.Kind.{form_of, written_length}
 use Rattle.drifters_entry.specs.Entry.{Request, refusal, propagation, measurement, estimate, request_of, Outcome, refused, lengths_fit, call, started, start}
-use Rattle.drifters_compasses.specs.Compasses.{count_of, compasses_fit, tried, attempt, CompassesAnswer, CompassesOutcome, update_compasses, compasses_number, compasses_values, TriedBounds}
+use Rattle.drifters_compasses.specs.Compasses.{reading_length, count_of, compasses_fit, tried, CompassesAnswer, CompassesOutcome, update_compasses, compasses_number, TriedBounds}
 use Rattle.drifters_compasses.specs.Compasses as compasses
 use Rattle.drifters_kind.specs.declared.kind.Kind.{Kind}
 use Rattle.drifters_kind.specs.declared.kind.Kind.TheVariants.{Propagate, Position, Velocity, Direction, General, State, Scalar}
-use Rattle.call_sheet.specs.Sheet.{Sheet, Runs, read_sheet, is_some, refusal_of, runs_fit, in_runs, read_into}
-use Rattle.call_sheet.specs.Text.{refused_line, numbers_of, lines_text, sheet_text}
+use Rattle.call_sheet.specs.Sheet.{SheetCall, Sheet, Runs, read_sheet, is_some, refusal_of, runs_fit, in_runs, read_into}
+use Rattle.call_sheet.specs.Text.{refused_line, numbers_of, line_text, sheet_text}
 use Rattle.drifters_eqf.specs.declared.answer.Refusal.{Refusal}
 use Rattle.drifters_demands.specs.Like.{Signs}
 use Rattle.drifters_demands.specs.Log.{Call, kind_call, compasses_call, CallAnswer, kind_answer, compasses_answer, LogEntry, Log, log_of}
@@ -125,7 +125,7 @@ pub record CheckedCompasses (checks : List Check) (run : List Float) (o : Compas
   pub refusal : (n : ℕ) → o.answer ≡ compasses.Refused n → o.run ≡ run
   pub accepted : first_of checks ≡ 0 → (n : ℕ) → o.answer ≡ compasses.Refused n → ⊥
   pub none : (k : ℕ) → o.answer ≡ compasses.None k → o.run ≡ run
-  pub chosen : (i k : ℕ) (x : Float) → o.answer ≡ compasses.Chosen i x k → (all_finite (compasses_values o.answer) ≡ true) × FiniteMirrored o.run
+  pub chosen : (i k : ℕ) (x : Float) → o.answer ≡ compasses.Chosen i x k → (is_finite x ≡ true) × FiniteMirrored o.run
 
 -- the checks of a file's bytes that are read into lent runs
 abbrev pub sheet_checks : List ℕ → List ℕ → List Kind → List ℕ → List Check
@@ -145,8 +145,8 @@ pub record NullCall (kind : Kind) (run v written : List Float) : Type 0 where
   pub finite : all_finite run && all_finite v ≡ true
   pub null : has_null kind v ≡ true
 
--- Every call, every update by several compasses, every start and every sheet is so checked; a call is refused as null exactly where it is such a call;
--- and an accepted propagation or update leaves a covariance that mirrors bit for bit.
+-- Every call of a kind, every update by several compasses, every start and every sheet is so checked; a call is refused as null exactly where it is such
+-- a call; and an accepted propagation or update of a kind leaves a covariance that mirrors bit for bit.
 pub record Demand1 : Type 0 where
   pub calls : (kind : Kind) (run v written : List Float) → Checked (checks kind run v written) run written (call kind run v written)
   pub null : (kind : Kind) (run v written : List Float) → (call kind run v written).answer ≡ Refused null_refusal ↔ NullCall kind run v written
@@ -183,28 +183,41 @@ pub record EarliestSmallest (answers : ℕ → Answer) (k i : ℕ) (x : Float) :
   pub smallest : (j : ℕ) (y : Float) → j < k → answers j ≡ Nis y → x ≤ᶠ y
   pub earliest : (j : ℕ) (y : Float) → j < i → answers j ≡ Nis y → x <ᶠ y
 
--- What an update by several compasses chooses of its k tries, each a direction call on the same filter: the one with the smallest normalised innovation
--- squared, the earliest among equals, and it leaves what that call leaves; none exactly where each is refused.
+-- What is chosen of k tries: the one with the smallest normalised innovation squared, the earliest among equals, and left is what that try left; none
+-- exactly where each is refused.
 pub record Chooses (k : ℕ) (tries : ℕ → Outcome) (o : CompassesOutcome) : Type 0 where
   pub chosen : (i n : ℕ) (x : Float) → o.answer ≡ compasses.Chosen i x n ↔ ((n ≡ k) × EarliestSmallest (λ j. (tries j).answer) k i x)
   pub left : (i n : ℕ) (x : Float) → o.answer ≡ compasses.Chosen i x n → o.run ≡ (tries i).run
   pub none : (n : ℕ) → o.answer ≡ compasses.None n ↔ ((n ≡ k) × ((j : ℕ) → j < k → (m : ℕ) × ((tries j).answer ≡ Refused m)))
 
--- An accepted call comes to what it asks for, and so does a start; an update by several compasses chooses of as many readings as are tried, within
--- their bounds; a sheet prints a line for each of its calls, each made on the filter that the one before it left; the square root is the nearest f64;
--- sine and cosine keep their bounds.
+-- reading i of several, tried: the direction call by its numbers, with north and noise after them, on the filter that the update was given
+abbrev pub direction_try : List Float → List Float → List Float → ℕ → Outcome
+direction_try run readings north_noise i = call Direction run (part readings (i * reading_length) reading_length ++ north_noise) []
+
+-- a call of a sheet, as a call of a log
+abbrev pub call_of : SheetCall → Call
+call_of c = kind_call c.kind (numbers_of c.bits)
+
+-- a text has a line for each entry of a log of calls of kinds: the index, counted from i, the kind and the answer
+pub data LinesOf : ℕ → List LogEntry → List ℕ → Type 0 where
+  no_line : {i : ℕ} → LinesOf i [] []
+  one_line : {i : ℕ} {kind : Kind} {v written left : List Float} {a : Answer} {es : List LogEntry} {text : List ℕ} → LinesOf (i + 1) es text
+      → LinesOf i (record { called = kind_call kind v; answer = kind_answer a written; left = left } ∷ es) (line_text i kind a ++ text)
+
+-- An accepted call of a kind comes to what it asks for, and so does a start; an update by several compasses tries its first readings and chooses among
+-- these, and how many keeps to its bounds; a sheet prints the lines of its log; the square root is the nearest f64; sine and cosine keep their bounds.
 pub record Demand2 : Type 0 where
   pub calls :
       (kind : Kind) (run v written : List Float) → first_of (checks kind run v written) ≡ 0
       → call kind run v written ≡ accepted_outcome (request_of kind (from_run run) v) (from_run run) run written
   pub compasses :
       (run readings north_noise : List Float) (budget : ℕ) → first_of (compasses_checks run readings north_noise budget) ≡ 0
-      → Chooses (tried budget (count_of (length readings))) (attempt run readings north_noise) (update_compasses run readings north_noise budget)
+      → Chooses (tried budget (count_of (length readings))) (direction_try run readings north_noise) (update_compasses run readings north_noise budget)
   pub tries : TriedBounds
   pub starts : (run v : List Float) → first_of (start_checks run v) ≡ 0 → start run v ≡ record { answer = Fine; run = started v; written = [] }
   pub sheets :
       (s : List ℕ) (sheet : Sheet) → read_sheet s ≡ Some sheet
-      → sheet_text s ≡ lines_text 1 (numbers_of sheet.filter) sheet.calls
+      → LinesOf 1 (log_of (numbers_of sheet.filter) (map call_of sheet.calls)).entries (sheet_text s)
   pub root : SqrtNearest
   pub sine : SineBound
   pub cosine : CosineBound
@@ -241,7 +254,7 @@ pub data EqualChoice : CompassesAnswer → CompassesAnswer → Type 0 where
   both_none : {k : ℕ} → EqualChoice (compasses.None k) (compasses.None k)
   both_compasses_refused : {n : ℕ} → EqualChoice (compasses.Refused n) (compasses.Refused n)
 
--- two answers to a call, by what was called
+-- two answers to a call are equal, by what was called
 pub data EqualCallAnswer : Call → CallAnswer → CallAnswer → Type 0 where
   to_kind : {kind : Kind} {v w w' : List Float} {a b : Answer} → EqualAnswer kind a w b w' → EqualCallAnswer (kind_call kind v) (kind_answer a w) (kind_answer b w')
   to_compasses : {r v : List Float} {budget : ℕ} {a b : CompassesAnswer} → EqualChoice a b

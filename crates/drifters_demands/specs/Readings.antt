@@ -1,5 +1,5 @@
 -- The starred readings, of the definitions at known numbers: one table, and one theorem. The proof is in proofs/Readings.antt. Definitions and statements only.
-use Rattle.std.specs.Prelude.{ℕ, false, List, [], ◌∷◌, ◌++◌, map, replicate, Float}
+use Rattle.std.specs.Prelude.{ℕ, Bool, false, cond, List, [], ◌∷◌, ◌++◌, map, replicate, Float}
 use Rattle.std.specs.Float.{nan, inf, binary64}
 use Rattle.std.specs.Float.Ieee.{of_bits, to_bits}
 use Rattle.drifters_real.specs.Reading.{Reading, reads, AsStated}
@@ -13,8 +13,9 @@ use Rattle.drifters_adjoint.specs.Adjoint.{most_halvings, halvings}
 use Rattle.drifters_gcu.specs.Gcu.{beta, nis}
 use Rattle.drifters_kind.specs.declared.kind.Kind.{Kind}
 use Rattle.drifters_kind.specs.declared.kind.Kind.TheVariants.{Position, State, Scalar}
+use Rattle.drifters_compasses.specs.Compasses.{count_of, compasses_fit}
 use Rattle.drifters_demands.specs.Like.{signed, Signs, about_x, about_y, about_z, axis}
-use Rattle.drifters_demands.specs.Turn.{turn_numbers}
+use Rattle.drifters_demands.specs.Turn.{turn_numbers, turn_north_noise}
 
 -- the number of a pattern
 abbrev pub float : ℕ → Float
@@ -50,6 +51,10 @@ signs_are s x y z = numbers_are (signed (axis s 0) one ∷ signed (axis s 1) one
 -- the numbers of a call that is turned about the first axis
 abbrev pub turned_about_x : Kind → List Float → List Float
 turned_about_x kind v = turn_numbers about_x kind v
+
+-- whether tests pass, as the numbers 1 and 0
+abbrev pub tests_are : List Bool → List ℕ → Reading
+tests_are tests stated = reads (map (λ b. cond b 1 0) tests) stated
 
 -- the norm of a vector with one number, of a pattern, for each component
 abbrev pub norm_of : ℕ → Float
@@ -94,6 +99,12 @@ readings u v w =
     -- of a scalar update: its NIS at y = 1 and S = 2, which is not 0.5; its row, which turns by its axes, and its innovation and variance, which do not
     ∷ numbers_are (nis 1 (sqrt two ∷ []) (one ∷ []) ∷ []) (float 0x3fdf_ffff_ffff_ffff ∷ [])
     ∷ numbers_are (turned_about_x Scalar (replicate 23 one)) (axes ++ axes ++ axes ++ axes ++ axes ++ axes ++ axes ++ one ∷ one ∷ [])
+    -- of several compasses: how many readings a run has; lengths and budgets that fit, and those that do not; north and noise, and a number past them
+    ∷ reads (count_of 3 ∷ count_of 24 ∷ []) (1 ∷ 8 ∷ [])
+    ∷ tests_are (compasses_fit 478 3 12 0 ∷ compasses_fit 478 24 12 8 ∷ []) (1 ∷ 1 ∷ [])
+    ∷ tests_are (compasses_fit 478 0 12 0 ∷ compasses_fit 478 4 12 0 ∷ compasses_fit 478 27 12 0 ∷ compasses_fit 478 3 12 9 ∷ []) (0 ∷ 0 ∷ 0 ∷ 0 ∷ [])
+    ∷ tests_are (compasses_fit 477 3 12 0 ∷ compasses_fit 479 3 12 0 ∷ compasses_fit 478 3 11 0 ∷ compasses_fit 478 3 13 0 ∷ []) (0 ∷ 0 ∷ 0 ∷ 0 ∷ [])
+    ∷ numbers_are (turn_north_noise about_x (replicate 13 one)) (axes ++ one ∷ minus_one ∷ minus_one ∷ minus_one ∷ one ∷ one ∷ minus_one ∷ one ∷ one ∷ one ∷ [])
     -- a norm: 0 by underflow, at the largest number whose square is 0; above 0 at the next number; infinite at 1e200
     ∷ numbers_are (norm_of 0x1e56_a09e_667f_3bcc ∷ norm_of 0x1e56_a09e_667f_3bcd ∷ norm_of 0x6974_e718_d7d7_625a ∷ []) (zero ∷ float 0x1e6b_b67a_e858_4caa ∷ inf false ∷ [])
     ∷ []

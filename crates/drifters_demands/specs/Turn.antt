@@ -66,11 +66,14 @@ turned σ v = tab (length v) (λ i. signed (σ i) (get_or v i nan))
 abbrev pub turn_numbers : Signs → Kind → List Float → List Float
 turn_numbers s kind v = turned (then_signs (call_length kind) (call_signs kind s) plain) v
 
--- a call; of several compasses north and noise turn, in the same way, and the readings do not
+-- the north and the noise of several compasses; places past these stay
+abbrev pub turn_north_noise : Signs → List Float → List Float
+turn_north_noise s v = turned (then_signs north_noise_length (north_noise_signs s) plain) v
+
+-- a call; the readings of several compasses stay
 abbrev pub turn_call : Signs → Call → Call
 turn_call s (kind_call kind v) = kind_call kind (turn_numbers s kind v)
-turn_call s (compasses_call readings north_noise budget) =
-    compasses_call readings (turned (then_signs north_noise_length (north_noise_signs s) plain) north_noise) budget
+turn_call s (compasses_call readings north_noise budget) = compasses_call readings (turn_north_noise s north_noise) budget
 
 -- an answer: what a state call wrote; NIS, refusals, the index of the reading that was applied and how many were tried do not change
 abbrev pub turn_answer : Signs → CallAnswer → CallAnswer

@@ -7,6 +7,7 @@ use mathlib.Core.List.{List}
 use native.Mathlib.Nat.{eq-or-lt_of_le, le_of_lt, lt_of_not-le}
 use native.Mathlib.Decide.{dec_le}
 use native.Mathlib.Omega.{arith}
+use borrow.Author.Count.{below_more}
 use lib.Ieee.{Float, nan, inf, fin, lt, is_nan}
 use Rattle.std.specs.Float.{◌≤ᶠ◌, ◌<ᶠ◌, NotNan}
 use Rattle.std.proofs.lemmas.Float as float
@@ -56,38 +57,31 @@ module _ (tries : ℕ → Outcome) (answered : (j : ℕ) → TryAnswer (tries j)
     no_best : AllRefused k → IsBest k nothing
     one_best : {i : ℕ} {x : Float} {left : List Float} → EarliestSmallest answers k i x → left ≡ (tries i).run → IsBest k (reading i x left)
 
-  -- what holds of the tries before k, and of k, holds of those before k + 1
-  up_to : {P : ℕ → Type 0} (k : ℕ) → ((j : ℕ) → j < k → P j) → P k → (j : ℕ) → j < suc k → P j
-  up_to {P} k before at j h = go (eq-or-lt_of_le h)
-    where
-      go : (suc j ≡ suc k) ⊎ (suc j < suc k) → P j
-      go (inl e) = subst P (sym (omega (arith, e))) at
-      go (inr l) = before j (omega arith)
-
   -- what a number is at most, that of a try is
   at_most : (x : Float) {k : ℕ} {z : Float} → answers k ≡ Nis z → x ≤ᶠ z → (y : Float) → answers k ≡ Nis y → x ≤ᶠ y
   at_most x e l y a = subst (λ (w : Float). x ≤ᶠ w) (same_nis e a) l
 
   -- try k is not smaller than the best before
-  still : {i : ℕ} {x : Float} (k : ℕ) → EarliestSmallest answers k i x → ((y : Float) → answers k ≡ Nis y → x ≤ᶠ y) → EarliestSmallest answers (suc k) i x
-  still {i} {x} k s not_less = record {
+  not_smaller : {i : ℕ} {x : Float} (k : ℕ) → EarliestSmallest answers k i x → ((y : Float) → answers k ≡ Nis y → x ≤ᶠ y) → EarliestSmallest answers (suc k) i x
+  not_smaller {i} {x} k s not_less = record {
     within = let h = s.within in omega arith;
     accepted = s.accepted;
-    smallest = λ j y h. up_to {P = λ j. answers j ≡ Nis y → x ≤ᶠ y} k (λ j h. s.smallest j y h) (not_less y) j h;
+    smallest = λ j y h. below_more (λ j. answers j ≡ Nis y → x ≤ᶠ y) k (λ j h. s.smallest j y h) (not_less y) j (omega arith);
     earliest = s.earliest;
   }
 
   -- try k is refused
   more_refused : {k n : ℕ} {b : BestTry} → answers k ≡ Refused n → IsBest k b → IsBest (suc k) b
-  more_refused {k} {n} e (no_best all) = no_best (up_to {P = λ j. (m : ℕ) × (answers j ≡ Refused m)} k all (n, e))
-  more_refused {k} {n} e (one_best s left) = one_best (still k s (λ y a. nis_not_refused a e)) left
+  more_refused {k} {n} e (no_best all) = no_best (λ j h. below_more (λ j. (m : ℕ) × (answers j ≡ Refused m)) k all (n, e) j (omega arith))
+  more_refused {k} {n} e (one_best s left) = one_best (not_smaller k s (λ y a. nis_not_refused a e)) left
 
   -- try k is the first that is accepted
   first_accepted : {k : ℕ} {x : Float} → answers k ≡ Nis x → AllRefused k → EarliestSmallest answers (suc k) k x
   first_accepted {k} {x} e all = record {
     within = omega arith;
     accepted = e;
-    smallest = λ j y h. up_to {P = λ j. answers j ≡ Nis y → x ≤ᶠ y} k (λ j h a. nis_not_refused a (all j h).1) (at_most x e (float.le_refl x (number e)) y) j h;
+    smallest = λ j y h.
+        below_more (λ j. answers j ≡ Nis y → x ≤ᶠ y) k (λ j h a. nis_not_refused a (all j h).1) (at_most x e (float.le_refl x (number e)) y) j (omega arith);
     earliest = λ j y h a. nis_not_refused a (all j h).1;
   }
 
@@ -96,7 +90,8 @@ module _ (tries : ℕ → Outcome) (answered : (j : ℕ) → TryAnswer (tries j)
   smaller {k} {i} {x} {z} e l s = record {
     within = omega arith;
     accepted = e;
-    smallest = λ j y h. up_to {P = λ j. answers j ≡ Nis y → z ≤ᶠ y} k (λ j h a. float.le_of_lt z y (below j y h a)) (at_most z e (float.le_refl z (number e)) y) j h;
+    smallest = λ j y h.
+        below_more (λ j. answers j ≡ Nis y → z ≤ᶠ y) k (λ j h a. float.le_of_lt z y (below j y h a)) (at_most z e (float.le_refl z (number e)) y) j (omega arith);
     earliest = below;
   }
     where
@@ -109,7 +104,7 @@ module _ (tries : ℕ → Outcome) (answered : (j : ℕ) → TryAnswer (tries j)
     where
       by_test : (t : Bool) → lt z x ≡ t → IsBest (suc k) (cond t (reading k z (tries k).run) (reading i x left))
       by_test true t = one_best (smaller e (float.T_from_true (lt z x) t) s) refl
-      by_test false t = one_best (still k s (at_most x e (float.le_of_not-lt z x (number e) (number s.accepted) (float.T_from_false (lt z x) t)))) l
+      by_test false t = one_best (not_smaller k s (at_most x e (float.le_of_not-lt z x (number e) (number s.accepted) (float.T_from_false (lt z x) t)))) l
   one_more e passed_over b = more_refused e b
 
   is_best : (k : ℕ) → IsBest k (best_of tries k)

@@ -1,8 +1,8 @@
 -- What the checks of an update by several compasses decide, and what it then chooses. Assumes nothing.
 use mathlib.Core.Path.{◌≡◌, refl, sym, ap, ◌∙◌, subst}
 use mathlib.Core.Bool.{Bool, true, false, not, ◌&&◌, cond, true≢false}
-use mathlib.Core.List.{List, []}
-use Prim.Native.Nat.{ℕ, suc}
+use mathlib.Core.List.{List, [], ◌++◌}
+use Prim.Native.Nat.{ℕ, suc, ◌*◌}
 use native.Mathlib.Nat.{suc-ne-zero}
 use lib.ListN.{length}
 use lib.Ieee.{Float}
@@ -16,9 +16,9 @@ use Rattle.drifters_eqf.specs.declared.filter.EqFilter.{EqFilter}
 use Rattle.drifters_entry.specs.Layout.{part, from_run}
 use Rattle.drifters_entry.specs.Entry.{Outcome, finite_outcome, direction_request, call}
 use Rattle.drifters_kind.specs.declared.kind.Kind.TheVariants.{Direction, State}
-use Rattle.drifters_compasses.specs.Compasses.{count_of, compasses_fit, tried, direction_numbers, attempt, BestTry, nothing, reading, best_of, CompassesOutcome, compasses_outcome, selected, update_compasses}
+use Rattle.drifters_compasses.specs.Compasses.{reading_length, count_of, compasses_fit, tried, direction_numbers, attempt, BestTry, nothing, reading, best_of, CompassesOutcome, compasses_outcome, selected, update_compasses}
 use Rattle.drifters_compasses.specs.Compasses as compasses
-use Rattle.drifters_demands.specs.Demands.{first_of, checks, compasses_checks, FiniteMirrored, CheckedCompasses, Chooses, accepted_outcome}
+use Rattle.drifters_demands.specs.Demands.{first_of, checks, compasses_checks, FiniteMirrored, CheckedCompasses, Chooses, accepted_outcome, direction_try}
 use Rattle.drifters_demands.proofs.Demands.Decision.{Decision, refuses, accepts, is_refusal, accepted_call, checked, call_decision}
 use Rattle.drifters_demands.proofs.Demands.Mirrored.{call_mirrored}
 use Rattle.drifters_demands.proofs.Demands.Choice.{TryAnswer, accepted, passed_over, finite_value, chooses}
@@ -55,15 +55,13 @@ module _ (run readings north_noise : List Float) (budget : ℕ) where
   k = tried budget (count_of (length readings))
 
   abbrev tries : ℕ → Outcome
-  tries = attempt run readings north_noise
+  tries = direction_try run readings north_noise
 
   answered : (j : ℕ) → TryAnswer (tries j).answer
-  unfolding attempt
-  answered j = direction_answer run (direction_numbers readings north_noise j)
+  answered j = direction_answer run (part readings (j * reading_length) reading_length ++ north_noise)
 
   mirrored : (j : ℕ) {x : Float} → (tries j).answer ≡ Nis x → FiniteMirrored (tries j).run
-  unfolding attempt
-  mirrored j e = try_mirrored run (direction_numbers readings north_noise j) e
+  mirrored j e = try_mirrored run (part readings (j * reading_length) reading_length ++ north_noise) e
 
   -- what the checks decide, by the number of the first that refuses: a refusal, or what the best try is
   data Decided : ℕ → CompassesOutcome → Type 0 where
@@ -71,7 +69,7 @@ module _ (run readings north_noise : List Float) (budget : ℕ) where
     is_selected : Decided 0 (selected k run (best_of tries k))
 
   decided : Decided (first_of (compasses_checks run readings north_noise budget)) (update_compasses run readings north_noise budget)
-  unfolding first_of update_compasses
+  unfolding first_of update_compasses attempt direction_numbers
   decided = by_tests (compasses_fit (length run) (length readings) (length north_noise) budget) (all_finite run && all_finite north_noise)
     where
       by_tests : (fit finite : Bool)
@@ -92,11 +90,10 @@ module _ (run readings north_noise : List Float) (budget : ℕ) where
 
   -- ---- what the checks and the best try come to
 
-  abbrev Checked : CompassesOutcome → Type 0
-  Checked o = CheckedCompasses (compasses_checks run readings north_noise budget) run o
+  abbrev CheckedHere : CompassesOutcome → Type 0
+  CheckedHere o = CheckedCompasses (compasses_checks run readings north_noise budget) run o
 
-  best_checked : first_of (compasses_checks run readings north_noise budget) ≡ 0 → (b : BestTry) → Chooses k tries (selected k run b) → Checked (selected k run b)
-  unfolding all_finite
+  best_checked : first_of (compasses_checks run readings north_noise budget) ≡ 0 → (b : BestTry) → Chooses k tries (selected k run b) → CheckedHere (selected k run b)
   best_checked e nothing c = record {
     number = sym e;
     refusal = λ n q. refl;
@@ -111,13 +108,14 @@ module _ (run readings north_noise : List Float) (budget : ℕ) where
     none = λ n q. absurd (cc);
     chosen = λ j n y q.
         let s = (c.chosen i k x).0 refl in
-        (ap (λ (b : Bool). b && true) (finite_value (answered i) s.1.accepted), subst FiniteMirrored (sym (c.left i k x refl)) (mirrored i s.1.accepted));
+        let same : y ≡ x = cc in
+        (rw same (finite_value (answered i) s.1.accepted), subst FiniteMirrored (sym (c.left i k x refl)) (mirrored i s.1.accepted));
   }
 
-  pub compasses_checked : Checked (update_compasses run readings north_noise budget)
+  pub compasses_checked : CheckedHere (update_compasses run readings north_noise budget)
   compasses_checked = by_decision refl decided
     where
-      by_decision : {first : ℕ} {o : CompassesOutcome} → first_of (compasses_checks run readings north_noise budget) ≡ first → Decided first o → Checked o
+      by_decision : {first : ℕ} {o : CompassesOutcome} → first_of (compasses_checks run readings north_noise budget) ≡ first → Decided first o → CheckedHere o
       by_decision e (is_refused m) = record {
         number = sym e;
         refusal = λ n q. refl;

@@ -7,7 +7,7 @@ use native.Mathlib.Omega.{arith}
 use borrow.Author.Tests.{lt-ltb}
 use lib.Dec.{ltb}
 use lib.ListN.{length, drop, length-append, length-take, length-drop, get_or-append}
-use lib.Seq.{drop-append_seam, get_or-take, get_or-drop}
+use lib.Seq.{drop_at, get_or-take, get_or-drop}
 use lib.Ieee.{Float, nan}
 use Rattle.drifters_eqf.specs.Answer.{Answer, length_refusal, blank_refusal}
 use Rattle.drifters_entry.specs.Layout.{part}
@@ -27,9 +27,6 @@ use Rattle.drifters_demands.proofs.Demands.Equality.{equal_of_same}
 
 -- ---- the numbers of a try
 
-drop_after : (a v : List Float) {n : ℕ} → length a ≡ n → drop n (a ++ v) ≡ v
-drop_after a v e = rw (← e) (drop-append_seam a v)
-
 -- one run after another of n numbers
 turned_append : {n : ℕ} {σ τ : ℕ → Bool} {a b v w : List Float} → length a ≡ n → Turned σ a b → Turned τ v w → Turned (then_signs n σ τ) (a ++ v) (b ++ w)
 turned_append {n} {σ} {τ} {a} {b} {v} {w} N A W =
@@ -39,7 +36,7 @@ turned_append {n} {σ} {τ} {a} {b} {v} {w} N A W =
       alike = rw (length-append a v, N)
           (like_then n (length v) σ τ
           record { entry = λ i I. rw (get_or-append a v nan i (omega arith), get_or-append b w nan i (omega arith)) (A.alike.entry i (omega arith)) }
-          (rw (drop_after a v N, drop_after b w M) W.alike));
+          (rw (drop_at a v n N, drop_at b w n M) W.alike));
     }
 
 -- a part of a run that does not turn
@@ -54,14 +51,14 @@ turned_part {a} {b} i n h = record {
   };
 }
 
--- the numbers past north and noise count no more than those of a direction call do
+-- a reading, then north and noise, have the signs of the numbers of a direction call
 agrees : (s : Signs) (i : ℕ) → i < 15 → then_signs 3 plain (then_signs north_noise_length (north_noise_signs s) plain) i ≡ call_signs Direction s i
 agrees s i I = ap (λ (t : Bool). cond (ltb i 3) false (cond t (north_noise_signs s (i - 3)) false)) (lt-ltb (i - 3) 12 (omega arith))
 
--- the readings that are tried are there
-there : (budget n j : ℕ) → j < tried budget (count_of n) → j * reading_length + reading_length ≤ n
+-- a reading that is tried lies within the run
+reading_within : (budget n j : ℕ) → j < tried budget (count_of n) → j * reading_length + reading_length ≤ n
 unfolding tried
-there budget n j h = omega arith
+reading_within budget n j h = omega arith
 
 -- ---- the best try
 
@@ -115,6 +112,6 @@ module _ {s : Signs} {run run' readings readings' v v' : List Float} (R : Turned
       cond_keeps (TurnedChoice s) (ap₂ ◌&&◌ (turned_finite R) (turned_finite N))
       (λ finite.
       let k = tried budget (count_of (length readings)) in
-      rw (← D.size) (like_selected k (like_best_of k (λ j J. like_attempt j (there budget (length readings) j J)))))
+      rw (← D.size) (like_selected k (like_best_of k (λ j J. like_attempt j (reading_within budget (length readings) j J)))))
       (λ blank. like_refusal blank_refusal))
       (λ unfit. like_refusal length_refusal)
