@@ -3,7 +3,7 @@
 #![tactic(auto)]
 
 use call_sheet::text::{MOST_ANSWER, answer_text};
-use drifters_compasses::compasses::{Best, Tried, update_compasses};
+use drifters_compasses::compasses::{Tried, update_compasses};
 use drifters_entry::entry::{FILTER_LENGTH, START_LENGTH, filter_call, nav_state, start};
 use drifters_eqf::answer::{Answer, Refusal};
 use drifters_kind::kind::{Kind, STATE_LENGTH};
@@ -48,11 +48,11 @@ fn report_compasses(rt: &impl Print, answer: Result<Tried, Refusal>) -> io::Resu
         Ok(
             Tried {
                 tried,
-                best: Some(Best { index, nis }),
+                best: Some(best),
             },
         ) => {
-            print!(rt; "update_compasses tried {tried} applied {index} ")?;
-            report_answer(rt, Ok(Some(nis)))
+            print!(rt; "update_compasses tried {tried} applied {} ", best.index)?;
+            report_answer(rt, Ok(Some(best.nis)))
         }
         Ok(Tried { tried, best: None }) => {
             println!(rt; "update_compasses tried {tried} applied none")
