@@ -5,7 +5,7 @@
 use call_sheet::text::{MOST_ANSWER, answer_text};
 use drifters_compasses::compasses::{Tried, update_compasses};
 use drifters_entry::entry::{FILTER_LENGTH, START_LENGTH, filter_call, nav_state, start};
-use drifters_eqf::answer::{Answer, Refusal};
+use drifters_eqf::answer::Answer;
 use drifters_kind::kind::{Kind, STATE_LENGTH};
 use std::io;
 
@@ -42,22 +42,15 @@ fn report(rt: &impl Print, called: &str, answer: Answer) -> io::Result<()> {
     report_answer(rt, answer)
 }
 
-// A line of an update by several compasses: how many readings were tried, and the index and the answer of the one that was applied.
-fn report_compasses(rt: &impl Print, answer: Result<Tried, Refusal>) -> io::Result<()> {
-    match answer {
-        Ok(
-            Tried {
-                tried,
-                best: Some(best),
-            },
-        ) => {
-            print!(rt; "update_compasses tried {tried} applied {} ", best.index)?;
+// A line of an update by several compasses that is accepted: how many readings were tried, and the index and the answer of the one that was applied.
+fn report_tried(rt: &impl Print, t: Tried) -> io::Result<()> {
+    print!(rt; "update_compasses tried {} applied ", t.tried)?;
+    match t.best {
+        Some(best) => {
+            print!(rt; "{} ", best.index)?;
             report_answer(rt, Ok(Some(best.nis)))
         }
-        Ok(Tried { tried, best: None }) => {
-            println!(rt; "update_compasses tried {tried} applied none")
-        }
-        Err(refusal) => report(rt, "update_compasses", Err(refusal)),
+        None => rt.write_all(b"none\n"),
     }
 }
 
@@ -142,7 +135,10 @@ fn direction_of_zeros() -> [f64; 15] {
 fn compasses(rt: &impl Print, run: &mut [f64], budget: usize) -> io::Result<()> {
     let pair = pair();
     let readings = [-0.5, 0.25, -0.1, 0.0, 0.0, 0.0, pair[0], pair[1], pair[2]];
-    report_compasses(rt, update_compasses(run, &readings, &pair[3..], budget))
+    match update_compasses(run, &readings, &pair[3..], budget) {
+        Ok(t) => report_tried(rt, t),
+        Err(refusal) => report(rt, "update_compasses", Err(refusal)),
+    }
 }
 
 // A general update: the bias of the gyroscope, measured.
