@@ -45,8 +45,8 @@ module _ (tries : ℕ → Outcome) (answered : (j : ℕ) → TryAnswer (tries j)
   abbrev answers : ℕ → Answer
   answers j = (tries j).answer
 
-  number : {j : ℕ} {x : Float} → answers j ≡ Nis x → NotNan x
-  number {j} {x} e = not_nan x (finite_value (answered j) e)
+  nis_not_nan : {j : ℕ} {x : Float} → answers j ≡ Nis x → NotNan x
+  nis_not_nan {j} {x} e = not_nan x (finite_value (answered j) e)
 
   -- each of the first k tries is refused
   abbrev AllRefused : ℕ → Type 0
@@ -81,7 +81,7 @@ module _ (tries : ℕ → Outcome) (answered : (j : ℕ) → TryAnswer (tries j)
     within = omega arith;
     accepted = e;
     smallest = λ j y h.
-        below_more (λ j. answers j ≡ Nis y → x ≤ᶠ y) k (λ j h a. nis_not_refused a (all j h).1) (at_most x e (float.le_refl x (number e)) y) j (omega arith);
+        below_more (λ j. answers j ≡ Nis y → x ≤ᶠ y) k (λ j h a. nis_not_refused a (all j h).1) (at_most x e (float.le_refl x (nis_not_nan e)) y) j (omega arith);
     earliest = λ j y h a. nis_not_refused a (all j h).1;
   }
 
@@ -91,7 +91,7 @@ module _ (tries : ℕ → Outcome) (answered : (j : ℕ) → TryAnswer (tries j)
     within = omega arith;
     accepted = e;
     smallest = λ j y h.
-        below_more (λ j. answers j ≡ Nis y → z ≤ᶠ y) k (λ j h a. float.le_of_lt z y (below j y h a)) (at_most z e (float.le_refl z (number e)) y) j (omega arith);
+        below_more (λ j. answers j ≡ Nis y → z ≤ᶠ y) k (λ j h a. float.le_of_lt z y (below j y h a)) (at_most z e (float.le_refl z (nis_not_nan e)) y) j (omega arith);
     earliest = below;
   }
     where
@@ -104,7 +104,7 @@ module _ (tries : ℕ → Outcome) (answered : (j : ℕ) → TryAnswer (tries j)
     where
       by_test : (t : Bool) → lt z x ≡ t → IsBest (suc k) (cond t (reading k z (tries k).run) (reading i x left))
       by_test true t = one_best (smaller e (float.T_from_true (lt z x) t) s) refl
-      by_test false t = one_best (not_smaller k s (at_most x e (float.le_of_not-lt z x (number e) (number s.accepted) (float.T_from_false (lt z x) t)))) l
+      by_test false t = one_best (not_smaller k s (at_most x e (float.le_of_not-lt z x (nis_not_nan e) (nis_not_nan s.accepted) (float.T_from_false (lt z x) t)))) l
   one_more e passed_over b = more_refused e b
 
   is_best : (k : ℕ) → IsBest k (best_of tries k)

@@ -90,10 +90,11 @@ module _ (run readings north_noise : List Float) (budget : ℕ) where
 
   -- ---- what the checks and the best try come to
 
-  abbrev CheckedHere : CompassesOutcome → Type 0
-  CheckedHere o = CheckedCompasses (compasses_checks run readings north_noise budget) run o
+  -- an outcome is checked as this update
+  abbrev CheckedUpdate : CompassesOutcome → Type 0
+  CheckedUpdate o = CheckedCompasses (compasses_checks run readings north_noise budget) run o
 
-  best_checked : first_of (compasses_checks run readings north_noise budget) ≡ 0 → (b : BestTry) → Chooses k tries (selected k run b) → CheckedHere (selected k run b)
+  best_checked : first_of (compasses_checks run readings north_noise budget) ≡ 0 → (b : BestTry) → Chooses k tries (selected k run b) → CheckedUpdate (selected k run b)
   best_checked e nothing c = record {
     number = sym e;
     refusal = λ n q. refl;
@@ -112,10 +113,10 @@ module _ (run readings north_noise : List Float) (budget : ℕ) where
         (rw same (finite_value (answered i) s.1.accepted), subst FiniteMirrored (sym (c.left i k x refl)) (mirrored i s.1.accepted));
   }
 
-  pub compasses_checked : CheckedHere (update_compasses run readings north_noise budget)
+  pub compasses_checked : CheckedUpdate (update_compasses run readings north_noise budget)
   compasses_checked = by_decision refl decided
     where
-      by_decision : {first : ℕ} {o : CompassesOutcome} → first_of (compasses_checks run readings north_noise budget) ≡ first → Decided first o → CheckedHere o
+      by_decision : {first : ℕ} {o : CompassesOutcome} → first_of (compasses_checks run readings north_noise budget) ≡ first → Decided first o → CheckedUpdate o
       by_decision e (is_refused m) = record {
         number = sym e;
         refusal = λ n q. refl;
