@@ -37,7 +37,7 @@
 #define DRIFTERS_VERSION_MAJOR 0
 #define DRIFTERS_VERSION_MINOR 5
 #define DRIFTERS_VERSION_PATCH 0
-#define DRIFTERS_VERSION "0.5.0"
+#define DRIFTERS_VERSION "0.6.0"
 
 /* Codes; drifters_code_meaning, below, says what each means. */
 #define DRIFTERS_OK 0u

@@ -3,15 +3,13 @@ use Rattle.std.specs.Prelude.{ℕ, ◌+◌, List, ◌++◌, get_or, Float}
 use Rattle.std.specs.Float.{nan}
 use Rattle.drifters_real.specs.Scalar.{half}
 use Rattle.drifters_matrix.specs.Matrix.{matrix, zeros, unit, matmul, mul_transpose, scaled, set_block, from_diagonal, identity, add_matrix, sub_matrix, neg_matrix}
-use Rattle.drifters_core.specs.Vec3.{to_array}
-use Rattle.drifters_core.specs.declared.math.vec3.Vec3.{Vec3}
-use Rattle.drifters_lie.specs.Lie.{to_array_se3, vec3_at, from_array_se3, chi, adjoint_apply_se3}
-use Rattle.drifters_symmetry.specs.Group.{attitude_offset, gyro_bias_offset, lever_offset, mag_offset, to_array21, from_array21, ad, adjoint_apply}
-use Rattle.drifters_symmetry.specs.Lift.{lift}
+use Rattle.drifters_core.specs.Vec3.{zero_vec3, to_array, cross, mul_mat3_vec3}
+use Rattle.drifters_lie.specs.Lie.{transpose3, se23_tangent, to_array_se3, from_array_se3, bracket_se3, chi, adjoint_apply_se3}
+use Rattle.drifters_lie.specs.declared.lie.Se3Tangent.{Se3Tangent}
+use Rattle.drifters_symmetry.specs.Group.{attitude_offset, gyro_bias_offset, lever_offset, mag_offset, to_array21, ad, adjoint_apply}
 use Rattle.drifters_symmetry.specs.declared.group.Symmetry.{Symmetry}
 use Rattle.drifters_symmetry.specs.declared.group.Algebra.{Algebra}
 use Rattle.drifters_symmetry.specs.declared.group.State.{State}
-use Rattle.drifters_symmetry.specs.declared.lift.Input.{Input}
 use Rattle.drifters_covariance.specs.declared.covariance.ProcessNoise.{ProcessNoise}
 
 -- the transition matrix I + A dt + ½ (A dt)²
@@ -20,15 +18,18 @@ transition a dt =
     let a_dt = scaled 441 a dt in
     add_matrix 441 (add_matrix 441 (identity 21) a_dt) (scaled 441 (matmul 21 21 21 a_dt a_dt) half)
 
--- six numbers from place i on, as an input
-abbrev pub input_at : List Float → ℕ → Input
-input_at v i = record { omega = vec3_at v i; accel = vec3_at v (i + 3) }
+-- the linear part of the lift at the state xi, for an input w with its acceleration as `nu`: the lift's four lines with `omega` for the rate, and in `c` nothing but w
+unfoldable pub linear_lift : State → Se3Tangent → Algebra
+linear_lift xi w = record {
+  c = se23_tangent w.omega w.nu zero_vec3;
+  gamma = bracket_se3 xi.bias w;
+  delta = cross xi.lever w.omega;
+  e = mul_mat3_vec3 (transpose3 xi.mag) w.omega;
+}
 
--- column k of the input noise: the lift at unit input k less the lift at zero input, transformed by the adjoint of x
-unfoldable pub input_column : Symmetry → State → Vec3 → ℕ → List Float
-input_column x estimate gravity k =
-    let quiet = to_array21 (lift estimate (input_at (zeros 6) 0) gravity) in
-    to_array21 (adjoint_apply x (from_array21 (sub_matrix 21 (to_array21 (lift estimate (input_at (unit 6 k) 0) gravity)) quiet)))
+-- column k of the input noise: the linear part of the lift at unit input k, transformed by the adjoint of x
+unfoldable pub input_column : Symmetry → State → ℕ → List Float
+input_column x estimate k = to_array21 (adjoint_apply x (linear_lift estimate (from_array_se3 (unit 6 k))))
 
 -- column k of the bias noise, before its sign
 unfoldable pub bias_column : Symmetry → ℕ → List Float
@@ -61,9 +62,9 @@ abbrev pub mag_column : ℕ
 mag_column = lever_column + 3
 
 -- the 21 by 18 matrix that maps the noise into normal coordinates; a block of six columns holds those of the gyroscope and the accelerometer
-unfoldable pub noise_map : Symmetry → State → Vec3 → List Float
-noise_map x estimate gravity =
-    let g = set_block 21 18 21 6 attitude_offset gyro_column (zeros 378) (matrix 21 6 (λ i k. get_or (input_column x estimate gravity k) i nan)) in
+unfoldable pub noise_map : Symmetry → State → List Float
+noise_map x estimate =
+    let g = set_block 21 18 21 6 attitude_offset gyro_column (zeros 378) (matrix 21 6 (λ i k. get_or (input_column x estimate k) i nan)) in
     let g = set_block 21 18 6 6 gyro_bias_offset gyro_bias_column g (neg_matrix 36 (matrix 6 6 (λ i k. get_or (bias_column x k) i nan))) in
     let g = set_block 21 18 3 3 lever_offset lever_column g (neg_matrix 9 x.c.rotation.«data») in
     set_block 21 18 3 3 mag_offset mag_column g x.e.«data»
@@ -73,9 +74,9 @@ abbrev pub psd : ProcessNoise → List Float
 psd q = to_array q.gyro ++ to_array q.accel ++ to_array q.gyro_bias ++ to_array q.accel_bias ++ to_array q.lever ++ to_array q.mag
 
 -- the process noise in normal coordinates
-unfoldable pub process_noise : Symmetry → State → Vec3 → ProcessNoise → List Float
-process_noise x estimate gravity q =
-    let g = noise_map x estimate gravity in
+unfoldable pub process_noise : Symmetry → State → ProcessNoise → List Float
+process_noise x estimate q =
+    let g = noise_map x estimate in
     mul_transpose 21 18 21 (matmul 21 18 18 g (from_diagonal 18 (psd q))) g
 
 -- the Joseph form (I - kc) sigma (I - kc)ᵀ + noise, for kc the gain times the output matrix and noise the gain's share of the measurement noise, k noise kᵀ

@@ -1,19 +1,16 @@
 // Port of the covariance lines of filter.rs: the process noise, the transition matrix, the Joseph form and the reset. They have a crate
 // of their own so that the edits of the filter are cheap to check.
-#![tactic(auto, unfolding(crate::specs::Covariance::transition, crate::specs::Covariance::input_column, crate::specs::Covariance::bias_column, crate::specs::Covariance::noise_map, crate::specs::Covariance::process_noise, crate::specs::Covariance::joseph, crate::specs::Covariance::reset_sigma))]
+#![tactic(auto, unfolding(crate::specs::Covariance::transition, crate::specs::Covariance::linear_lift, crate::specs::Covariance::input_column, crate::specs::Covariance::bias_column, crate::specs::Covariance::noise_map, crate::specs::Covariance::process_noise, crate::specs::Covariance::joseph, crate::specs::Covariance::reset_sigma))]
 
 ghost use Rattle.std.specs.Prelude.{◌≡◌, get_or};
 ghost use Rattle.std.specs.Float.{nan};
-ghost use Rattle.drifters_matrix.specs.Matrix.{matrix, unit, matmul, sub_matrix, mul_transpose};
-ghost use Rattle.drifters_symmetry.specs.Group.{to_array21, from_array21, adjoint_apply};
-ghost use Rattle.drifters_symmetry.specs.Lift.{lift};
-ghost use Rattle.drifters_covariance.specs.Covariance.{transition, input_at, input_column, bias_column, noise_map, psd, process_noise, joseph, reset_sigma};
+ghost use Rattle.drifters_matrix.specs.Matrix.{matrix, matmul, mul_transpose};
+ghost use Rattle.drifters_covariance.specs.Covariance.{transition, linear_lift, input_column, bias_column, noise_map, psd, process_noise, joseph, reset_sigma};
 
-use drifters_core::math::vec3::Vec3;
-use drifters_lie::lie::Se3Tangent;
-use drifters_matrix::math::matrix::{Mat6, Mat21, Mat21x6, Mat21x18, Vector21, unit};
+use drifters_core::math::vec3::{Vec3, mul_vec3};
+use drifters_lie::lie::{Se3Tangent, Se23Tangent};
+use drifters_matrix::math::matrix::{Mat6, Mat21, Mat21x6, Mat21x18, unit};
 use drifters_symmetry::group::{ATTITUDE, Algebra, GYRO_BIAS, LEVER, MAG, State, Symmetry};
-use drifters_symmetry::lift::{Input, lift};
 
 // The power spectral densities of the process noise, per axis. The first two are white noise of the sensors, which the input brings in: their
 // unit is the square of what is measured, per hertz. The others are random walks of states: the square of the state's unit, per second.
@@ -46,12 +43,11 @@ pub fn transition(a: Mat21, dt: f64) -> Mat21
     phi
 }
 
-// The process noise in normal coordinates: x is the new state of the observer, the estimate the old one. With gravity they are the original's three
-// parameters; a struct of them would be made here to be taken apart below.
-pub fn process_noise(x: Symmetry, estimate: State, gravity: Vec3, q: ProcessNoise) -> Mat21
-    ensures { result.data ≡ process_noise x estimate gravity q }
+// The process noise in normal coordinates: x is the new state of the observer, the estimate the old one.
+pub fn process_noise(x: Symmetry, estimate: State, q: ProcessNoise) -> Mat21
+    ensures { result.data ≡ process_noise x estimate q }
 {
-    let g = noise_map(x, estimate, gravity);
+    let g = noise_map(x, estimate);
     let weighted = g.mul_diagonal::<324>(psd(q));
     weighted.mul_transpose(&g)
 }
@@ -71,40 +67,40 @@ const MAG_COLUMN: usize = LEVER_COLUMN + 3;
 
 // The 21 by 18 matrix that maps the noise into normal coordinates. A block of six columns holds those of the gyroscope and the
 // accelerometer.
-fn noise_map(x: Symmetry, estimate: State, gravity: Vec3) -> Mat21x18
-    ensures { result.data ≡ noise_map x estimate gravity }
+fn noise_map(x: Symmetry, estimate: State) -> Mat21x18
+    ensures { result.data ≡ noise_map x estimate }
 {
     let mut g = Mat21x18::zeros();
-    g.set_block(ATTITUDE, GYRO_COLUMN, &input_columns(x, estimate, gravity));
+    g.set_block(ATTITUDE, GYRO_COLUMN, &input_columns(x, estimate));
     g.set_block(GYRO_BIAS, GYRO_BIAS_COLUMN, &bias_columns(x).neg());
     g.set_block(LEVER, LEVER_COLUMN, &x.a().neg());
     g.set_block(MAG, MAG_COLUMN, &x.e);
     g
 }
 
-// The columns of the input noise: column k is the lift at unit input k less the quiet one, transformed by the adjoint of x.
-fn input_columns(x: Symmetry, estimate: State, gravity: Vec3) -> Mat21x6
-    ensures { result.data ≡ matrix 21 6 (λ i k. get_or (input_column x estimate gravity k) i nan) }
+// The columns of the input noise: column k is the linear part of the lift at unit input k, transformed by the adjoint of x.
+fn input_columns(x: Symmetry, estimate: State) -> Mat21x6
+    ensures { result.data ≡ matrix 21 6 (λ i k. get_or (input_column x estimate k) i nan) }
 {
-    let quiet = lift(estimate, input_of([0.0; 6]), gravity).to_array();
     let column = move |k: usize|
-        ensures { result ≡ to_array21 (adjoint_apply x (from_array21 (sub_matrix 21 (to_array21 (lift estimate (input_at (unit 6 k) 0) gravity)) quiet))) }
+        ensures { result ≡ input_column x estimate k }
     {
-        let driven = lift(estimate, input_of(unit(k)), gravity).to_array();
-        let difference = Vector21 { data: driven }.sub(Vector21 { data: quiet });
-        x.adjoint_apply(Algebra::from_array(difference.data))
+        x.adjoint_apply(linear_lift(estimate, Se3Tangent::from_array(unit(k))))
             .to_array()
     };
     Mat21x6::from_columns(&std::array::from_fn(column))
 }
 
-// Six numbers as an input. No `From`: `Input` is another crate's, and only the columns of its noise make one of an array.
-fn input_of(v: [f64; 6]) -> Input
-    ensures { result ≡ input_at v 0 }
+// The linear part of the lift at the estimate, for the input w, its acceleration as `nu`. The original subtracts the lift at zero input from that at w, and loses
+// the digits of w that a large bias rounds away.
+fn linear_lift(estimate: State, w: Se3Tangent) -> Algebra
+    ensures { result ≡ linear_lift estimate w }
 {
-    Input {
-        omega: Vec3::new(v[0], v[1], v[2]),
-        accel: Vec3::new(v[3], v[4], v[5]),
+    Algebra {
+        c: Se23Tangent::new(w.omega, w.nu, Vec3::ZERO),
+        gamma: estimate.bias.bracket(w),
+        delta: estimate.lever.cross(w.omega),
+        e: mul_vec3(estimate.mag.transpose(), w.omega),
     }
 }
 

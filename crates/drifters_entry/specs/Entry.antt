@@ -4,7 +4,6 @@ use Rattle.std.specs.Float.{nan}
 use Rattle.drifters_matrix.specs.Matrix.{zeros, all_finite}
 use Rattle.drifters_eqf.specs.Answer.{Answer, Nis, Fine, Refused, length_refusal, blank_refusal, range_refusal, null_refusal, values_of}
 use Rattle.drifters_lie.specs.Lie.{vec3_at}
-use Rattle.drifters_covariance.specs.Covariance.{input_at}
 use Rattle.drifters_eqf.specs.Filter.{Answered, new, nav_state, propagate, Measurement, update_by, measured_position, measured_velocity, measured_direction}
 use Rattle.drifters_kind.specs.Kind.{form_of, written_length}
 use Rattle.drifters_kind.specs.declared.kind.Form.{Form}
@@ -22,6 +21,10 @@ pub data Request : Type 0 where
   propagation : Input → Float → ProcessNoise → Request
   measurement : ℕ → Measurement → List Float → Float → Request
   estimate : Request
+
+-- six numbers from place i on, as an input
+abbrev pub input_at : List Float → ℕ → Input
+input_at v i = record { omega = vec3_at v i; accel = vec3_at v (i + 3) }
 
 -- eighteen densities from place i on
 abbrev pub process_noise_at : List Float → ℕ → ProcessNoise

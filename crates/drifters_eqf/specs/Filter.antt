@@ -82,7 +82,7 @@ unfoldable pub propagated_sigma : EqFilter → Input → Float → ProcessNoise 
 propagated_sigma f u dt q =
     let x = compose f.x (exp (full_step f u dt)) in
     let phi = transition (state_matrix (midpoint f u dt) u f.gravity) dt in
-    let noise = process_noise x (nav_state f) f.gravity q in
+    let noise = process_noise x (nav_state f) q in
     symmetrize 21 (add_matrix 441 (mul_transpose 21 21 21 (matmul 21 21 21 phi f.sigma.«data») phi) (scaled 441 noise (abs dt)))
 
 -- the filter after propagation

@@ -89,7 +89,7 @@ impl EqFilter {
         }
         let x = self.x.compose(Symmetry::exp(step));
         let phi = transition(state_matrix(half, u, gravity), dt);
-        let noise = process_noise(x, estimate, gravity, q);
+        let noise = process_noise(x, estimate, q);
         let mut sigma = Mat21::zeros();
         congruence(&phi, &self.sigma, &mut sigma);
         sigma.add_scaled(&noise, abs(dt));

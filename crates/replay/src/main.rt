@@ -13,9 +13,9 @@ use replay_lists::tally::Tally;
 use std::io;
 use std::rt::Files;
 
-// Flights of the mount, as they are and with some of the numbers of their calls changed; filters that no flight leaves; turns just above 8
+// Flights of the mount, as they are and with some of the numbers of their calls changed; filters that no flight leaves; large biases; turns just above 8
 // and of 8; directions by vectors of norm 0 and just above it.
-const LISTS: [&str; 29] = [
+const LISTS: [&str; 31] = [
     "flight",
     "second_flight",
     "backwards",
@@ -37,6 +37,8 @@ const LISTS: [&str; 29] = [
     "huge_sigma",
     "huge_e",
     "huge_nis",
+    "rounded_away",
+    "biased",
     "blank",
     "limit_update",
     "limit_scalar",

@@ -6,9 +6,9 @@ use crate::in_threads;
 use crate::lent::{Lent, START};
 use drifters_core::math::Vec3;
 use inputs::norms::LEAST_NORMS;
-use inputs::{log, start, Flight, Manner, Numbers};
-use original::places::FILTER;
-use original::{filter_of, is_update, Call};
+use inputs::{biased, log, rounded_away, start, Flight, Manner, Numbers};
+use original::places::{DIAGONAL_STEP, FILTER, GRAVITY, SIGMA};
+use original::{filter_of, is_update, propagated_unedited, Call};
 
 /// How many flights, and how many calls each has.
 const FLIGHTS: u64 = 150;
@@ -16,6 +16,8 @@ const FLIGHT_CALLS: usize = 4000;
 /// How many logs of other manners, and how many calls one has at most.
 const LOGS: u64 = 180_000;
 const LOG_CALLS: usize = 24;
+/// How many logs of propagations with large biases.
+const BIASED_LOGS: u64 = 100_000;
 
 /// The names of the kinds in their order, and of a start.
 const NAMES: [&str; START as usize] =
@@ -43,6 +45,12 @@ struct Tally {
     /// original.
     read: u64,
     misread: u64,
+    /// How many propagations that are accepted as the original was published too it leaves otherwise there, and by how much of itself a variance
+    /// then differs at most; how many are accepted here alone, and how many there alone.
+    edited: u64,
+    most_edited: f64,
+    here_alone: u64,
+    there_alone: u64,
 }
 
 impl Tally {
@@ -57,11 +65,15 @@ impl Tally {
         self.long += other.long;
         self.read += other.read;
         self.misread += other.misread;
+        self.edited += other.edited;
+        self.most_edited = self.most_edited.max(other.most_edited);
+        self.here_alone += other.here_alone;
+        self.there_alone += other.there_alone;
     }
 
     fn print(&self, title: &str) {
         println!("{title:<18} {}", ANSWERS.map(|answer| format!("{answer:>9}")).join(" "));
-        for (name, row) in NAMES.iter().zip(self.answers) {
+        for (name, row) in NAMES.iter().zip(self.answers).filter(|(_, row)| row.iter().any(|count| *count > 0)) {
             println!("{name:<18} {}", row.map(|count| format!("{count:>9}")).join(" "));
         }
         let null: u64 = self.answers.iter().map(|row| row[NULL as usize]).sum();
@@ -70,6 +82,10 @@ impl Tally {
         println!("{null} more refused 7 and left out of these: by the reading of the checks alone; {} differ", self.null_differ);
         println!("accepted directions: {} with a norm below {LEAST_NORMS:e}, {} with an infinite one", self.short, self.long);
         println!("{} updates of three numbers by the reading over the width; {} differ", self.read, self.misread);
+        println!(
+            "{} propagations that the original as published leaves otherwise, a variance by at most {:e} of itself; {} accepted by the edited one alone, {} as published alone",
+            self.edited, self.most_edited, self.here_alone, self.there_alone
+        );
     }
 
     /// Makes a call on both sides and compares. Gives the filter's run as the port leaves it.
@@ -88,6 +104,9 @@ impl Tally {
         if kind == 4 && expected == 0 {
             self.count_norms(&lent.numbers);
         }
+        if kind == 1 && matches!(expected, 0 | 5) {
+            self.count_edited(&lent, expected == 0, &theirs.run);
+        }
         if (2..=5).contains(&kind) && !matches!(expected, 1 | NULL) {
             self.read += 1;
             self.misread += u64::from(!Call::read(kind, &lent.numbers).is_read_alike(&filter_of(&lent.run)));
@@ -100,6 +119,21 @@ impl Tally {
             }
         }
         ours.run
+    }
+
+    /// Counts a propagation that the original as it was published leaves otherwise, or that only one of the two leaves finite.
+    fn count_edited(&mut self, lent: &Lent, accepted: bool, after: &[f64]) {
+        let published = propagated_unedited(&lent.run, &lent.numbers);
+        let finite = published.iter().all(|x| x.is_finite());
+        self.here_alone += u64::from(accepted && !finite);
+        self.there_alone += u64::from(!accepted && finite);
+        if !accepted || !finite {
+            return;
+        }
+        self.edited += u64::from(after.iter().zip(&published).any(|(x, y)| x.to_bits() != y.to_bits()));
+        for at in (SIGMA..GRAVITY).step_by(DIAGONAL_STEP).filter(|at| after[*at] != published[*at]) {
+            self.most_edited = self.most_edited.max(((after[at] - published[at]) / after[at]).abs());
+        }
     }
 
     /// Counts an accepted direction that has a norm hardly above 0, or an infinite one.
@@ -143,6 +177,26 @@ fn any_log(tally: &mut Tally, seed: u64) {
     tally.compare(START, lent);
 }
 
+/// Propagations with large biases, each on the filter that the last one left.
+fn biased_log(tally: &mut Tally, seed: u64) {
+    let log = biased(&mut Numbers::new(seed));
+    let mut run = log.run;
+    for (kind, numbers) in &log.calls {
+        run = tally.compare(*kind, Lent::new(*kind, &run, numbers));
+    }
+}
+
+/// The input of docs/DIFFERENCES.md that shows the edit: whether the first variance is 1 by the port and by the original, and 0 as that was published.
+fn shows_the_edit() -> bool {
+    let log = rounded_away();
+    let (kind, numbers) = &log.calls[0];
+    let (mut ours, mut theirs) = (Lent::new(*kind, &log.run, numbers), Lent::new(*kind, &log.run, numbers));
+    let accepted = ours.on_port(*kind) == 0 && theirs.on_original(*kind) == 0;
+    let variances = [ours.run[SIGMA], theirs.run[SIGMA], propagated_unedited(&log.run, numbers)[SIGMA]];
+    println!("a unit input that is rounded away: {variances:?} by the port, by the original, and as that was published");
+    accepted && variances == [1.0, 1.0, 0.0]
+}
+
 /// Gives one of the runs another length.
 fn other_length(n: &mut Numbers, kind: u32, lent: &mut Lent) {
     let run = match n.below(3) {
@@ -171,5 +225,8 @@ fn compare_seeds(title: &str, seeds: u64, one: fn(&mut Tally, u64)) -> u64 {
 }
 
 pub fn compare() -> u64 {
-    compare_seeds("flights", FLIGHTS, flight) + compare_seeds("logs", LOGS, any_log)
+    let seeds = compare_seeds("flights", FLIGHTS, flight)
+        + compare_seeds("logs", LOGS, any_log)
+        + compare_seeds("large biases", BIASED_LOGS, biased_log);
+    seeds + u64::from(!shows_the_edit())
 }

@@ -2,11 +2,13 @@
 use crate::in_threads;
 use crate::lent::{Lent, LentCompasses};
 use drifters_eqf::linear::DIM;
-use inputs::{compasses, log, Compasses, Manner, Numbers};
+use inputs::{biased, compasses, log, Compasses, Log, Manner, Numbers};
 use original::places::{ALPHA, E, GAMMA, GENERAL_NOISE, GRAVITY, INNOVATION, MOST_READINGS, SCALAR_INNOVATION, SIGMA, VELOCITY};
 
 const LOGS: u64 = 36_000;
 const LOG_CALLS: usize = 24;
+/// How many logs of propagations with large biases.
+const BIASED_LOGS: u64 = 25_000;
 /// How many logs have compasses, and how often their first filter meets some before the log's calls.
 const COMPASS_LOGS: u64 = 6_000;
 const STANDING_CALLS: usize = 4;
@@ -146,8 +148,7 @@ impl<'a> Twins<'a> {
     }
 }
 
-fn compare_log(seed: u64, s: &Signs) -> Tally {
-    let log = log(&mut Numbers::new(seed), Manner::of(seed), LOG_CALLS);
+fn compare_log(log: &Log, s: &Signs) -> Tally {
     let mut twins = Twins::new(s, &log.run);
     let mut tally = Tally::default();
     for (kind, numbers) in &log.calls {
@@ -228,14 +229,22 @@ fn all_compasses(axis: &str, signs: &Signs) -> u64 {
     differ
 }
 
+/// The logs of the seeds below a count about an axis.
+fn all_logs(seeds: u64, log: impl Fn(u64) -> Log + Sync, signs: &Signs) -> Tally {
+    let one_thread = |seeds: &mut dyn Iterator<Item = u64>| seeds.map(|seed| compare_log(&log(seed), signs)).fold(Tally::default(), Tally::add);
+    in_threads(seeds, one_thread).into_iter().fold(Tally::default(), Tally::add)
+}
+
 pub fn compare() -> u64 {
     let mut wrong = 0;
     for (axis, signs) in ["first", "second", "third"].iter().zip(&TURNS) {
-        let tallies = in_threads(LOGS, |seeds| seeds.map(|seed| compare_log(seed, signs)).fold(Tally::default(), Tally::add));
-        let Tally { calls, scalars, null, differ } = tallies.into_iter().fold(Tally::default(), Tally::add);
+        let of_manners = |seed| log(&mut Numbers::new(seed), Manner::of(seed), LOG_CALLS);
+        let Tally { calls, scalars, null, differ } = all_logs(LOGS, of_manners, signs);
         let counts = format!("{LOGS} logs, {calls} calls, {scalars} of them scalar updates, {null} refused 7");
         println!("half turn about the {axis} axis: {counts}; {differ} differ");
-        wrong += differ + all_compasses(axis, signs);
+        let large = all_logs(BIASED_LOGS, |seed| biased(&mut Numbers::new(seed)), signs);
+        println!("half turn about the {axis} axis, large biases: {} propagations; {} differ", large.calls, large.differ);
+        wrong += differ + large.differ + all_compasses(axis, signs);
     }
     wrong
 }

@@ -1,4 +1,5 @@
 //! Inputs for the comparison and the measurements, from fixed seeds: numbers, flights, logs of calls, compasses and call sheets.
+mod biased;
 mod compasses;
 mod flight;
 mod log;
@@ -7,6 +8,7 @@ mod numbers;
 mod scalar;
 mod sheet;
 
+pub use biased::{biased, rounded_away};
 pub use compasses::{compasses, flown, spoil, Compasses};
 pub use flight::Flight;
 pub use log::{call, log, start, Log, Manner};

@@ -171,7 +171,7 @@ impl Parts {
     }
 }
 
-fn rotation(n: &mut Numbers) -> [f64; 9] {
+pub fn rotation(n: &mut Numbers) -> [f64; 9] {
     let dcm = Quat::from_rotation_vector(Vec3::from_array(n.withins(2.0))).to_dcm();
     dcm.data.as_flattened().try_into().expect("nine numbers")
 }
@@ -204,7 +204,7 @@ fn sprinkle(n: &mut Numbers, manner: Manner, numbers: &mut [f64]) {
 }
 
 /// A covariance: positive, a diagonal, zero, a little unmirrored, or any numbers.
-fn covariance(n: &mut Numbers, manner: Manner) -> Vec<f64> {
+pub fn covariance(n: &mut Numbers, manner: Manner) -> Vec<f64> {
     if manner == Manner::Turning {
         let mut sigma = Matrix::<21, 21>::identity() * 2.0;
         // So that a direction, which sees only the last three, turns the attitude too.

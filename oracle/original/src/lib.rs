@@ -10,11 +10,13 @@ mod measurement;
 pub mod places;
 mod runs;
 mod sheet;
+mod unedited;
 
 pub use calls::{call_length, is_update, written_length, Call, LAST_KIND};
 pub use compasses::{update_compasses, Tries, Try};
 pub use runs::filter_of;
 pub use sheet::{plain_sheet, run_sheet, REFUSED_SHEET};
+pub use unedited::propagated_unedited;
 
 use places::{FILTER, START};
 

@@ -1,10 +1,10 @@
 //! The lists of calls, each from a fixed seed.
 use crate::list::List;
-use inputs::{Flight, Manner, Numbers};
+use inputs::{biased, rounded_away, Flight, Log, Manner, Numbers};
 use original::places::{
     ALPHA, DIAGONAL_STEP, DT, E, FILTER, GAMMA, GENERAL, GENERAL_NOISE, GRAVITY, INNOVATION, SCALAR, SCALAR_INNOVATION, SIGMA, VARIANCE,
 };
-use original::{is_update, LAST_KIND};
+use original::{is_update, propagated_unedited, Answer, LAST_KIND};
 
 type Call = (u32, Vec<f64>);
 
@@ -181,6 +181,16 @@ fn scalar(name: &'static str, seed: u64, alpha: f64) -> List {
     list
 }
 
+/// The propagations of a log, which are all accepted. As the original was published each leaves another filter.
+fn propagated(name: &'static str, log: Log) -> List {
+    let mut list = List::new(name, &log.run);
+    for call in log.calls {
+        let published = propagated_unedited(&list.run, &call.1);
+        assert!(matches!(list.add(call), Answer::Fine) && list.run != published, "{name}");
+    }
+    list
+}
+
 /// A flight's calls on a filter that has one number that is not finite.
 fn blank() -> List {
     let mut flight = Flight::new(60);
@@ -276,6 +286,8 @@ pub fn all() -> Vec<List> {
         huge("huge_sigma", 0.5, &Scales { sigma: 1e300, ..UNCHANGED }),
         huge("huge_e", 0.5, &Scales { e: 1e155, sigma: 0.0, innovation: 1e155, ..UNCHANGED }),
         huge("huge_nis", 0.0, &Scales { e: 1e152, sigma: 0.0, innovation: 1e152, ..UNCHANGED }),
+        propagated("rounded_away", rounded_away()),
+        propagated("biased", biased(&mut Numbers::new(70))),
         blank(),
     ]
 }

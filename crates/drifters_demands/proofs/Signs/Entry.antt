@@ -20,10 +20,9 @@ use Rattle.drifters_demands.proofs.Signs.Matrix.{like_all_finite_list}
 use Rattle.drifters_eqf.specs.Answer.{Answer, length_refusal, blank_refusal, range_refusal, values_of}
 use Rattle.drifters_lie.specs.Lie.{vec3_at}
 use Rattle.drifters_eqf.specs.Filter.{Answered, Measurement}
-use Rattle.drifters_covariance.specs.Covariance.{input_at}
 use Rattle.drifters_entry.specs.Layout.{filter_length, part, from_run, to_run, state_to_run, SizedFilter, SizedState}
 use Rattle.drifters_kind.specs.Kind.{form_of, call_length, written_length}
-use Rattle.drifters_entry.specs.Entry.{Request, process_noise_at, direction_request, request_of, Outcome, outcome_of, performed, refused, finite_outcome, if_finite, range_checked_as, range_checked, lengths_fit, call}
+use Rattle.drifters_entry.specs.Entry.{Request, input_at, process_noise_at, direction_request, request_of, Outcome, outcome_of, performed, refused, finite_outcome, if_finite, range_checked_as, range_checked, lengths_fit, call}
 use Rattle.drifters_demands.specs.Turn.{plain, then_signs, matrix_signs, noise_signs, filter_signs, call_signs, state_signs}
 use Rattle.drifters_symmetry.specs.declared.group.State.{State as StateRecord}
 use Rattle.drifters_eqf.specs.declared.filter.EqFilter.{EqFilter}

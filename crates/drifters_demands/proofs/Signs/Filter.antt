@@ -1,26 +1,26 @@
--- The definitions of Filter.antt keep `LikeFilter`: propagation under half turns of the reference frame, updates under those of the other frames as well. Assumes nothing.
-use mathlib.Core.Path.{◌≡◌, refl, sym, ap, ap₂, ◌∙◌}
+-- The definitions of Covariance.antt and Filter.antt keep `LikeMatrix` and `LikeFilter`, under half turns of each of the three frames. Assumes nothing.
+use mathlib.Core.Path.{◌≡◌, refl, sym, ap₂, ◌∙◌}
 use mathlib.Core.Bool.{Bool, false, ◌&&◌}
 use mathlib.Core.List.{List}
-use Prim.Native.Nat.{ℕ}
-use lib.ListN.{get_or}
-use lib.Ieee.{Float, nan, unlike}
+use Prim.Native.Nat.{ℕ, ◌+◌, ◌*◌, ◌<◌}
+use native.Mathlib.Omega.{arith}
+use lib.Dec.{lit<}
+use lib.Ieee.{Float}
 use Rattle.std.specs.Prelude.{Option}
-use Rattle.drifters_matrix.specs.Matrix.{matrix}
+use Rattle.drifters_matrix.specs.Matrix.{set_block}
 use Rattle.drifters_demands.specs.Like.{Like, Signs, axis, LikeList, LikeVec3, LikeMatrix, no_turn}
+use Rattle.drifters_demands.specs.Turn.{then_signs}
 use Rattle.drifters_core.specs.declared.math.vec3.Vec3.{Vec3}
-use Rattle.drifters_demands.proofs.Signs.Sign.{unlike_same, unlike_false, axis_add}
+use Rattle.drifters_demands.proofs.Signs.Sign.{unlike_same, axis_add, signed_axis}
 use Rattle.drifters_demands.proofs.Signs.Like.{cond_keeps, like_as, like_refl}
 use Rattle.drifters_demands.proofs.Signs.Ops.{like_mul}
 use Rattle.drifters_demands.proofs.Signs.Compare.{like_le}
 use Rattle.drifters_demands.proofs.Signs.Real.{like_abs}
-use Rattle.drifters_demands.proofs.Signs.Vec3.{like_vec3_refl, like_vec3_as, like_to_array, like_sub_vec3, like_norm, LikeNormalized, both_units, both_none, like_normalized, like_skew}
-use Rattle.drifters_demands.proofs.Signs.Matrix.{like_matrix, like_zeros, like_column, like_of_column, like_transpose, like_add_matrix, like_matmul, like_mul_transpose, like_from_diagonal, like_identity, like_symmetrize, like_mul_mat3_vec3}
+use Rattle.drifters_demands.proofs.Signs.Vec3.{like_zero_vec3, like_to_array, like_sub_vec3, cross_right, like_norm, LikeNormalized, both_units, both_none, like_normalized, like_skew}
+use Rattle.drifters_demands.proofs.Signs.Matrix.{like_zeros, like_matrix_as, like_column, like_of_column, like_transpose, like_add_matrix, like_matmul, like_mul_transpose, like_from_diagonal, like_identity, like_symmetrize, like_set_block, like_mul_mat3_vec3, like_rotated}
 use Rattle.drifters_demands.proofs.Signs.Cholesky.{LikeFactor, like_cholesky, like_solve}
 use Rattle.drifters_demands.proofs.Signs.Numeral.{scaled_of, neg_matrix_of, add_matrix_of, sub_matrix_of}
-use Rattle.drifters_symmetry.specs.Group.{to_array21}
-use Rattle.drifters_symmetry.specs.Lift.{lift}
-use Rattle.drifters_covariance.specs.Covariance.{transition, input_column, bias_column, noise_map, psd, process_noise, joseph, reset_sigma}
+use Rattle.drifters_covariance.specs.Covariance.{transition, linear_lift, input_column, bias_column, noise_map, psd, process_noise, joseph, reset_sigma}
 use Rattle.drifters_eqf.specs.Filter.{turn_fits, refuse, nav_state, half_step, midpoint, full_step, propagated_sigma, propagated, propagate, projected, raw_factor, inflated_factor, gain, Correction, correction, step, corrected, applied, update, measured_position, measured_velocity, measured_units, measured_direction}
 use Rattle.drifters_lie.specs.declared.lie.Se3Tangent.{Se3Tangent}
 use Rattle.drifters_symmetry.specs.declared.group.Symmetry.{Symmetry}
@@ -29,12 +29,13 @@ use Rattle.drifters_symmetry.specs.declared.group.State.{State}
 use Rattle.drifters_symmetry.specs.declared.lift.Input.{Input}
 use Rattle.drifters_covariance.specs.declared.covariance.ProcessNoise.{ProcessNoise}
 use Rattle.drifters_eqf.specs.declared.filter.EqFilter.{EqFilter}
-use Rattle.drifters_demands.proofs.Signs.GroupRecords.{axis_no_turn, LikeSe3Tangent, LikeSymmetry, LikeAlgebra, LikeState, LikeInput}
+use Rattle.drifters_demands.proofs.Signs.GroupRecords.{axis_no_turn, SignedSe3Tangent, SignedAlgebra, LikeSymmetry, LikeAlgebra, LikeState, LikeInput}
 use Rattle.drifters_demands.proofs.Signs.FilterRecords.{LikeProcessNoise, LikeFilter, both_nis_lem, both_fine, both_refused_lem, LikeAnswered, LikeMeasurement, LikeMeasured, both_measured, both_unmeasured}
-use Rattle.drifters_demands.proofs.Signs.Lie.{like_set_block_axis, like_to_array_append, like_to_array_se3, like_chi, like_adjoint_apply_se3}
-use Rattle.drifters_demands.proofs.Signs.Group.{like_compose, like_to_array21, like_scaled_algebra, like_from_array21, like_ad, like_exp, like_adjoint_apply, like_default_state, like_act_state}
+use Rattle.drifters_demands.proofs.Signs.Lie.{like_to_array_append, like_to_array_se3, like_from_array_se3, like_bracket_se3, like_chi, like_adjoint_apply_se3}
+use Rattle.drifters_demands.proofs.Signs.Group.{like_compose, like_to_array21, like_scaled_algebra, like_from_array21, like_unit, like_columns, like_ad, like_exp, like_adjoint_apply, like_default_state, like_act_state}
 use Rattle.drifters_demands.proofs.Signs.Lift.{like_lift}
 use Rattle.drifters_demands.proofs.Signs.Linear.{like_state_matrix, like_direction_output_matrix, like_position_output_matrix, like_velocity_output_matrix, like_transported_direction, like_transported_position, like_transported_velocity}
+use Rattle.drifters_demands.proofs.Signs.Layout.{then_before, then_after}
 use Rattle.drifters_demands.proofs.Signs.Gcu.{like_definite, like_entries_of, like_nis, like_inflate}
 
 pub like_turn_fits : {s m : Signs} {u u' : Algebra} → LikeAlgebra s m u u' → turn_fits u ≡ turn_fits u'
@@ -68,42 +69,44 @@ like_transition h k =
     let aDt = scaled_of h refl k in
     add_matrix_of (add_matrix_of like_identity refl aDt) refl (scaled_of (like_matmul aDt aDt) refl like_refl)
 
--- ---- propagation: the noise, where the frames of the body and of the magnetometer are not turned: the unit inputs are the same on both sides
-like_vec3_itself : {v : Vec3} → LikeVec3 (axis no_turn) v v
-like_vec3_itself = like_vec3_as (λ i I. sym (axis_no_turn i)) like_vec3_refl
+-- ---- propagation: the noise
+pub like_linear_lift : {s b m : Signs} {t : Bool} {xi xi' : State} {w w' : Se3Tangent} → LikeState s b m xi xi' → SignedSe3Tangent b t w w'
+    → SignedAlgebra b m t (linear_lift xi w) (linear_lift xi' w')
+unfolding linear_lift
+like_linear_lift {t} h k = record {
+  c = record { omega = k.omega; nu = k.nu; rho = like_zero_vec3 };
+  gamma = like_bracket_se3 h.bias k;
+  delta = cross_right t h.lever k.omega;
+  e = like_rotated t (like_transpose h.mag) k.omega;
+}
 
-like_tangent_itself : {u : Se3Tangent} → LikeSe3Tangent no_turn u u
-like_tangent_itself = record { omega = like_vec3_itself; nu = like_vec3_itself }
+-- the signs of the noise map's columns: five times three in the body frame, the last three in the magnetometer's
+abbrev pub noise_columns : Signs → Signs → ℕ → Bool
+noise_columns b m = then_signs 15 (axis b) (axis m)
 
--- the numbers of the lift at one and the same input
-lifted : {s : Signs} {xi xi' : State} {g g' : Vec3} (u : Input) → LikeState s no_turn no_turn xi xi' → LikeVec3 (axis s) g g'
-    → LikeMatrix (axis no_turn) (λ j. false) 21 1 (to_array21 (lift xi u g)) (to_array21 (lift xi' u g'))
-lifted u E G = like_column (like_to_array21 (like_lift E record { omega = like_vec3_itself; accel = like_vec3_itself } G))
-
--- a matrix of columns
-like_columns : {s : Signs} {r c : ℕ} {g g' : ℕ → List Float} → ((k : ℕ) → LikeList (axis s) r (g k) (g' k))
-    → LikeMatrix (axis s) (axis no_turn) r c (matrix r c (λ i k. get_or (g k) i nan)) (matrix r c (λ i k. get_or (g' k) i nan))
-like_columns {s} h = like_matrix (λ i k I K. like_as (sym (ap (unlike (axis s i)) (axis_no_turn k) ∙ unlike_false (axis s i))) ((h k).entry i I))
-
-module _ {s : Signs} {x x' : Symmetry} (X : LikeSymmetry s no_turn s no_turn x x') where
-  pub like_input_column : {xi xi' : State} {g g' : Vec3} → LikeState s no_turn no_turn xi xi' → LikeVec3 (axis s) g g' → (k : ℕ)
-      → LikeList (axis s) 21 (input_column x xi g k) (input_column x' xi' g' k)
+module _ {s b m : Signs} {x x' : Symmetry} (X : LikeSymmetry s b s m x x') where
+  pub like_input_column : {r : Signs} {xi xi' : State} → LikeState r b m xi xi' → (k : ℕ) → LikeList (signed_axis s (axis b k)) 21 (input_column x xi k) (input_column x' xi' k)
   unfolding input_column
-  like_input_column E G k =
-      like_to_array21 (like_adjoint_apply X (like_from_array21 (like_of_column (sub_matrix_of (lifted _ E G) refl (lifted _ E G)))))
+  like_input_column E k = like_to_array21 (like_adjoint_apply X (like_linear_lift E (like_from_array_se3 (like_unit b 6 k))))
 
-  pub like_bias_column : (k : ℕ) → LikeList (axis s) 6 (bias_column x k) (bias_column x' k)
+  pub like_bias_column : (k : ℕ) → LikeList (signed_axis s (axis b k)) 6 (bias_column x k) (bias_column x' k)
   unfolding bias_column
-  like_bias_column k = like_to_array_se3 (like_adjoint_apply_se3 (like_chi X.c) like_tangent_itself)
+  like_bias_column k = like_to_array_se3 (like_adjoint_apply_se3 (like_chi X.c) (like_from_array_se3 (like_unit b 6 k)))
 
-  pub like_noise_map : {xi xi' : State} {g g' : Vec3} → LikeState s no_turn no_turn xi xi' → LikeVec3 (axis s) g g'
-      → LikeMatrix (axis s) (axis no_turn) 21 18 (noise_map x xi g) (noise_map x' xi' g')
+  -- a block of columns from place 3 q on, all in the body frame
+  body_columns : (p q : ℕ) {br bc : ℕ} {a a' e e' : List Float} → 3 * q + bc < 16 → LikeMatrix (axis s) (noise_columns b m) 21 18 a a'
+      → LikeMatrix (axis s) (axis b) br bc e e' → LikeMatrix (axis s) (noise_columns b m) 21 18 (set_block 21 18 br bc (3 * p) (3 * q) a e) (set_block 21 18 br bc (3 * p) (3 * q) a' e')
+  body_columns p q {bc} Q h k =
+      like_set_block (3 * p) (3 * q) h
+      (like_matrix_as (λ i I. sym (axis_add s p i)) (λ j J. sym (then_before 15 (axis b) (axis m) (3 * q + j) (omega (arith, Q, J)) ∙ axis_add b q j)) k)
+
+  pub like_noise_map : {r : Signs} {xi xi' : State} → LikeState r b m xi xi' → LikeMatrix (axis s) (noise_columns b m) 21 18 (noise_map x xi) (noise_map x' xi')
   unfolding noise_map
-  like_noise_map E G =
-      let a = like_set_block_axis 0 0 (like_zeros {r = 21} {c = 18}) (like_columns {r = 21} {c = 6} (like_input_column E G)) in
-      let a = like_set_block_axis 3 2 a (neg_matrix_of (like_columns {r = 6} {c = 6} like_bias_column) refl) in
-      let a = like_set_block_axis 5 4 a (neg_matrix_of X.c.rotation refl) in
-      like_set_block_axis 6 5 a X.e
+  like_noise_map E =
+      let a = body_columns 0 0 (lit< tt) (like_zeros {r = 21} {c = 18}) (like_columns {r = 21} {c = 6} (like_input_column E)) in
+      let a = body_columns 3 2 (lit< tt) a (neg_matrix_of (like_columns {r = 6} {c = 6} like_bias_column) refl) in
+      let a = body_columns 5 4 (lit< tt) a (neg_matrix_of X.c.rotation refl) in
+      like_set_block (3 * 6) 15 a (like_matrix_as (λ i I. sym (axis_add s 6 i)) (λ j J. sym (then_after 15 (axis b) (axis m) j)) X.e)
 
 pub like_psd : {q q' : ProcessNoise} → LikeProcessNoise q q' → LikeList (axis no_turn) 18 (psd q) (psd q')
 like_psd h =
@@ -114,35 +117,35 @@ like_psd h =
     (like_to_array_append (axis_add no_turn) h.lever
     (like_to_array h.mag)))))
 
-pub like_process_noise : {s : Signs} {x x' : Symmetry} {xi xi' : State} {g g' : Vec3} {q q' : ProcessNoise} → LikeSymmetry s no_turn s no_turn x x'
-    → LikeState s no_turn no_turn xi xi' → LikeVec3 (axis s) g g' → LikeProcessNoise q q' → LikeMatrix (axis s) (axis s) 21 21 (process_noise x xi g q) (process_noise x' xi' g' q')
+pub like_process_noise : {s b m r : Signs} {x x' : Symmetry} {xi xi' : State} {q q' : ProcessNoise} → LikeSymmetry s b s m x x' → LikeState r b m xi xi'
+    → LikeProcessNoise q q' → LikeMatrix (axis s) (axis s) 21 21 (process_noise x xi q) (process_noise x' xi' q')
 unfolding process_noise
-like_process_noise X E G Q =
-    let map = like_noise_map X E G in
+like_process_noise {b} {m} X E Q =
+    let map = like_noise_map X E in
     like_mul_transpose
-    (like_matmul map (like_from_diagonal record { entry = λ i I. like_as (axis_no_turn i ∙ sym (unlike_same (axis no_turn i))) ((like_psd Q).entry i I) }))
+    (like_matmul map (like_from_diagonal record { entry = λ i I. like_as (axis_no_turn i ∙ sym (unlike_same (noise_columns b m i))) ((like_psd Q).entry i I) }))
     map
 
 -- ---- propagation
-module _ {s : Signs} {f f' : EqFilter} {u u' : Input} {dt dt' : Float} {q q' : ProcessNoise}
-    (F : LikeFilter s no_turn no_turn f f') (U : LikeInput no_turn u u') (T : Like false dt dt') (Q : LikeProcessNoise q q') where
+module _ {s b m : Signs} {f f' : EqFilter} {u u' : Input} {dt dt' : Float} {q q' : ProcessNoise}
+    (F : LikeFilter s b m f f') (U : LikeInput b u u') (T : Like false dt dt') (Q : LikeProcessNoise q q') where
   pub like_propagated_sigma : LikeMatrix (axis s) (axis s) 21 21 (propagated_sigma f u dt q) (propagated_sigma f' u' dt' q')
   unfolding propagated_sigma
   like_propagated_sigma =
       let phi = like_transition (like_state_matrix (like_midpoint F U T) U F.gravity) T in
-      let noise = like_process_noise (like_compose F.x (like_exp (like_full_step F U T))) (like_nav_state F) F.gravity Q in
+      let noise = like_process_noise (like_compose F.x (like_exp (like_full_step F U T))) (like_nav_state F) Q in
       like_symmetrize (add_matrix_of (like_mul_transpose (like_matmul phi F.sigma) phi) refl (scaled_of noise refl (like_abs T)))
 
-  pub like_propagated : LikeFilter s no_turn no_turn (propagated f u dt q) (propagated f' u' dt' q')
+  pub like_propagated : LikeFilter s b m (propagated f u dt q) (propagated f' u' dt' q')
   unfolding propagated
   like_propagated = record { x = like_compose F.x (like_exp (like_full_step F U T)); sigma = like_propagated_sigma; gravity = F.gravity; alpha = F.alpha }
 
-  pub like_propagate : LikeAnswered s no_turn no_turn (propagate f u dt q) (propagate f' u' dt' q')
+  pub like_propagate : LikeAnswered s b m (propagate f u dt q) (propagate f' u' dt' q')
   unfolding propagate
   like_propagate =
-      cond_keeps (LikeAnswered s no_turn no_turn) (like_turn_fits (like_half_step F U T))
+      cond_keeps (LikeAnswered s b m) (like_turn_fits (like_half_step F U T))
       (λ e.
-      cond_keeps (LikeAnswered s no_turn no_turn) (like_turn_fits (like_full_step F U T))
+      cond_keeps (LikeAnswered s b m) (like_turn_fits (like_full_step F U T))
       (λ e. record { answer = both_fine; filter = like_propagated })
       (λ e. like_refuse F))
       (λ e. like_refuse F)

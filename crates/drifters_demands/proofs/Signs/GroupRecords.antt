@@ -1,9 +1,10 @@
 -- Records that are the same but for signs, both zeros counting as one. A frame has its signs: s is the reference frame's, b the body's,
 -- m the magnetometer's; a rotation has the signs of one frame for its rows and of another for its columns. Assumes nothing.
 use mathlib.Core.Path.{◌≡◌, refl}
-use mathlib.Core.Bool.{false}
+use mathlib.Core.Bool.{Bool, false}
 use Prim.Native.Nat.{ℕ, zero, suc}
 use Rattle.drifters_demands.specs.Like.{Signs, no_turn, axis, LikeVec3, LikeMatrix}
+use Rattle.drifters_demands.proofs.Signs.Sign.{signed_axis}
 use Rattle.drifters_lie.specs.declared.lie.Se23Tangent.{Se23Tangent}
 use Rattle.drifters_lie.specs.declared.lie.Se3Tangent.{Se3Tangent}
 use Rattle.drifters_lie.specs.declared.lie.Se23.{Se23}
@@ -19,14 +20,33 @@ axis_no_turn (suc zero) = refl
 axis_no_turn (suc (suc zero)) = refl
 axis_no_turn (suc (suc (suc i))) = axis_no_turn i
 
-pub record LikeSe3Tangent (s : Signs) (u v : Se3Tangent) : Type 0 where
-  pub omega : LikeVec3 (axis s) u.omega v.omega
-  pub nu : LikeVec3 (axis s) u.nu v.nu
+-- elements of the algebras, with the signs of a frame or, where t, all of these changed: a unit element is itself in a turned frame but for one
+-- sign, and the columns of `ad` and of the noise map are made of such
+pub record SignedSe3Tangent (s : Signs) (t : Bool) (u v : Se3Tangent) : Type 0 where
+  pub omega : LikeVec3 (signed_axis s t) u.omega v.omega
+  pub nu : LikeVec3 (signed_axis s t) u.nu v.nu
 
-pub record LikeSe23Tangent (s : Signs) (u v : Se23Tangent) : Type 0 where
-  pub omega : LikeVec3 (axis s) u.omega v.omega
-  pub nu : LikeVec3 (axis s) u.nu v.nu
-  pub rho : LikeVec3 (axis s) u.rho v.rho
+pub record SignedSe23Tangent (s : Signs) (t : Bool) (u v : Se23Tangent) : Type 0 where
+  pub omega : LikeVec3 (signed_axis s t) u.omega v.omega
+  pub nu : LikeVec3 (signed_axis s t) u.nu v.nu
+  pub rho : LikeVec3 (signed_axis s t) u.rho v.rho
+
+-- e in a frame of its own
+pub record SignedAlgebra (s m : Signs) (t : Bool) (u v : Algebra) : Type 0 where
+  pub c : SignedSe23Tangent s t u.c v.c
+  pub gamma : SignedSe3Tangent s t u.gamma v.gamma
+  pub delta : LikeVec3 (signed_axis s t) u.delta v.delta
+  pub e : LikeVec3 (signed_axis m t) u.e v.e
+
+-- the same with the signs of a frame as they are
+abbrev pub LikeSe3Tangent : Signs → Se3Tangent → Se3Tangent → Type 0
+LikeSe3Tangent s = SignedSe3Tangent s false
+
+abbrev pub LikeSe23Tangent : Signs → Se23Tangent → Se23Tangent → Type 0
+LikeSe23Tangent s = SignedSe23Tangent s false
+
+abbrev pub LikeAlgebra : Signs → Signs → Algebra → Algebra → Type 0
+LikeAlgebra s m = SignedAlgebra s m false
 
 pub record LikeSe23 (s b : Signs) (c d : Se23) : Type 0 where
   pub rotation : LikeMatrix (axis s) (axis b) 3 3 c.rotation.«data» d.rotation.«data»
@@ -43,13 +63,6 @@ pub record LikeSymmetry (s b t m : Signs) (x y : Symmetry) : Type 0 where
   pub gamma : LikeSe3Tangent s x.gamma y.gamma
   pub delta : LikeVec3 (axis s) x.delta y.delta
   pub e : LikeMatrix (axis t) (axis m) 3 3 x.e.«data» y.e.«data»
-
--- e in a frame of its own
-pub record LikeAlgebra (s m : Signs) (u v : Algebra) : Type 0 where
-  pub c : LikeSe23Tangent s u.c v.c
-  pub gamma : LikeSe3Tangent s u.gamma v.gamma
-  pub delta : LikeVec3 (axis s) u.delta v.delta
-  pub e : LikeVec3 (axis m) u.e v.e
 
 -- pose from the body frame to s, biases and lever arm in the body frame, the calibration from m to the body frame
 pub record LikeState (s b m : Signs) (xi zeta : State) : Type 0 where

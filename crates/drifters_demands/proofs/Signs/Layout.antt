@@ -39,10 +39,10 @@ get_d_turned σ a i I = get_d_tab (length a) (λ i. signed (σ i) (get_or a i na
 
 -- ---- the first n numbers, and those after them
 module _ (n : ℕ) (σ τ : ℕ → Bool) (i : ℕ) where
-  then_before : i < n → then_signs n σ τ i ≡ σ i
+  pub then_before : i < n → then_signs n σ τ i ≡ σ i
   then_before I = ap (λ t. cond t (σ i) (τ (i - n))) (lt-ltb i n I)
 
-  then_after : then_signs n σ τ (n + i) ≡ τ i
+  pub then_after : then_signs n σ τ (n + i) ≡ τ i
   then_after = ap (λ t. cond t (σ (n + i)) (τ (n + i - n))) (le-ltb (n + i) n (omega arith)) ∙ ap τ (omega arith)
 
 module _ (n m : ℕ) {a b : List Float} where

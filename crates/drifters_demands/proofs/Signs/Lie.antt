@@ -15,13 +15,13 @@ use Rattle.drifters_core.specs.Vec3.{to_array, mul_mat3_vec3}
 use Rattle.drifters_demands.specs.Like.{Like, Signs, axis, LikeList, LikeVec3, LikeMatrix}
 use Rattle.drifters_core.specs.declared.math.vec3.Vec3.{Vec3}
 use Rattle.drifters_matrix.specs.Shapes.{Mat3}
-use Rattle.drifters_demands.proofs.Signs.Sign.{axis_add}
+use Rattle.drifters_demands.proofs.Signs.Sign.{axis_add, signed_axis, signed_axis_add}
 use Rattle.drifters_demands.proofs.Signs.Like.{cond_keeps, like_as, like_refl}
 use Rattle.drifters_demands.proofs.Signs.Ops.{like_add, like_sub, like_square, like_div_same, like_div_equal}
 use Rattle.drifters_demands.proofs.Signs.Compare.{like_lt, like_not_lt}
 use Rattle.drifters_demands.proofs.Signs.Real.{like_sqrt, like_sin, like_cos, like_max}
-use Rattle.drifters_demands.proofs.Signs.Matrix.{like_zeros, like_matrix_as, like_transpose, like_matmul, like_set_block, like_identity, like_mul_mat3_vec3}
-use Rattle.drifters_demands.proofs.Signs.Vec3.{like_zero_vec3, like_to_array, like_add_vec3, like_sub_vec3, like_neg_vec3, like_mul_vec3, like_cross, like_norm_squared, like_skew, like_amax_vec3}
+use Rattle.drifters_demands.proofs.Signs.Matrix.{like_zeros, like_matrix_as, like_transpose, like_matmul, like_set_block, like_identity, like_mul_mat3_vec3, like_rotated}
+use Rattle.drifters_demands.proofs.Signs.Vec3.{like_zero_vec3, like_to_array, like_add_vec3, like_sub_vec3, like_neg_vec3, like_mul_vec3, cross_right, like_norm_squared, like_skew, like_amax_vec3}
 use Rattle.drifters_demands.proofs.Signs.Quat.{like_from_rotation_vector, like_to_dcm}
 use Rattle.drifters_demands.proofs.Signs.Numeral.{scaled_of, add_matrix_of}
 use Rattle.drifters_lie.specs.Lie.{zero_se3_tangent, scaled_se23, pi, to_array_se3, vec3_at, from_array_se3, scaled_se3, bracket_se3, blocks6, ad_se3, add_se3, sub_se3, neg_se3, add_se23, small_angle_sq, jacobian_a, jacobian_b, left_jacobian, identity_se23, compose_se23, inverse_se23, adjoint_apply_se23, chi, exp_se23, inverse_se3, adjoint_se3, adjoint_apply_se3, exp_se3}
@@ -30,7 +30,7 @@ use Rattle.drifters_lie.specs.declared.lie.Se23Tangent.{Se23Tangent}
 use Rattle.drifters_lie.specs.declared.lie.Se3Tangent.{Se3Tangent}
 use Rattle.drifters_lie.specs.declared.lie.Se23.{Se23}
 use Rattle.drifters_lie.specs.declared.lie.Se3.{Se3}
-use Rattle.drifters_demands.proofs.Signs.GroupRecords.{LikeSe3Tangent, LikeSe23Tangent, LikeSe23, LikeSe3}
+use Rattle.drifters_demands.proofs.Signs.GroupRecords.{SignedSe3Tangent, SignedSe23Tangent, LikeSe3Tangent, LikeSe23Tangent, LikeSe23, LikeSe3}
 
 -- ---- parts at multiples of three, where the signs of the axes begin anew
 pub like_set_block_axis : {s b : Signs} {r c br bc : ℕ} {a a' e e' : List Float} (p q : ℕ) → LikeMatrix (axis s) (axis b) r c a a' → LikeMatrix (axis s) (axis b) br bc e e'
@@ -61,26 +61,25 @@ like_vec3_at {σ} again h k K = record {
 }
 
 -- ---- the algebras
-module _ {s : Signs} {u u' : Se23Tangent} (h : LikeSe23Tangent s u u') where
-  pub like_scaled_se23 : {t t' : Float} → Like false t t' → LikeSe23Tangent s (scaled_se23 u t) (scaled_se23 u' t')
-  unfolding scaled_se23
-  like_scaled_se23 k = record { omega = like_mul_vec3 h.omega k; nu = like_mul_vec3 h.nu k; rho = like_mul_vec3 h.rho k }
+pub like_scaled_se23 : {s : Signs} {u u' : Se23Tangent} {t t' : Float} → LikeSe23Tangent s u u' → Like false t t' → LikeSe23Tangent s (scaled_se23 u t) (scaled_se23 u' t')
+unfolding scaled_se23
+like_scaled_se23 h k = record { omega = like_mul_vec3 h.omega k; nu = like_mul_vec3 h.nu k; rho = like_mul_vec3 h.rho k }
 
-  pub like_pi : LikeSe3Tangent s (pi u) (pi u')
-  like_pi = record { omega = h.omega; nu = h.nu }
+pub like_pi : {s : Signs} {t : Bool} {u u' : Se23Tangent} → SignedSe23Tangent s t u u' → SignedSe3Tangent s t (pi u) (pi u')
+like_pi h = record { omega = h.omega; nu = h.nu }
 
 pub like_zero_se3_tangent : {s : Signs} → LikeSe3Tangent s zero_se3_tangent zero_se3_tangent
 like_zero_se3_tangent = record { omega = like_zero_vec3; nu = like_zero_vec3 }
 
-pub like_to_array_se3 : {s : Signs} {u u' : Se3Tangent} → LikeSe3Tangent s u u' → LikeList (axis s) 6 (to_array_se3 u) (to_array_se3 u')
-like_to_array_se3 {s} h = like_to_array_append (axis_add s) h.omega (like_to_array h.nu)
+pub like_to_array_se3 : {s : Signs} {t : Bool} {u u' : Se3Tangent} → SignedSe3Tangent s t u u' → LikeList (signed_axis s t) 6 (to_array_se3 u) (to_array_se3 u')
+like_to_array_se3 {s} {t} h = like_to_array_append (signed_axis_add s t) h.omega (like_to_array h.nu)
 
-pub like_from_array_se3 : {s : Signs} {v v' : List Float} → LikeList (axis s) 6 v v' → LikeSe3Tangent s (from_array_se3 v) (from_array_se3 v')
-like_from_array_se3 {s} h = record { omega = like_vec3_at (axis_add s) h 0 (lit< tt); nu = like_vec3_at (axis_add s) h 1 (lit< tt) }
+pub like_from_array_se3 : {s : Signs} {t : Bool} {v v' : List Float} → LikeList (signed_axis s t) 6 v v' → SignedSe3Tangent s t (from_array_se3 v) (from_array_se3 v')
+like_from_array_se3 {s} {t} h = record { omega = like_vec3_at (signed_axis_add s t) h 0 (lit< tt); nu = like_vec3_at (signed_axis_add s t) h 1 (lit< tt) }
 
-pub like_bracket_se3 : {s : Signs} {u u' v v' : Se3Tangent} → LikeSe3Tangent s u u' → LikeSe3Tangent s v v' → LikeSe3Tangent s (bracket_se3 u v) (bracket_se3 u' v')
+pub like_bracket_se3 : {s : Signs} {t : Bool} {u u' v v' : Se3Tangent} → LikeSe3Tangent s u u' → SignedSe3Tangent s t v v' → SignedSe3Tangent s t (bracket_se3 u v) (bracket_se3 u' v')
 unfolding bracket_se3
-like_bracket_se3 h k = record { omega = like_cross h.omega k.omega; nu = like_add_vec3 (like_cross h.nu k.omega) (like_cross h.omega k.nu) }
+like_bracket_se3 {t} h k = record { omega = cross_right t h.omega k.omega; nu = like_add_vec3 (cross_right t h.nu k.omega) (cross_right t h.omega k.nu) }
 
 pub like_blocks6 : {s b : Signs} {p p' q q' r r' : Mat3} → LikeMatrix (axis s) (axis b) 3 3 p.«data» p'.«data» → LikeMatrix (axis s) (axis b) 3 3 q.«data» q'.«data»
     → LikeMatrix (axis s) (axis b) 3 3 r.«data» r'.«data» → LikeMatrix (axis s) (axis b) 6 6 (blocks6 p q r) (blocks6 p' q' r')
@@ -90,12 +89,12 @@ pub like_ad_se3 : {s : Signs} {u u' : Se3Tangent} → LikeSe3Tangent s u u' → 
 unfolding ad_se3
 like_ad_se3 h = like_blocks6 (like_skew h.omega) (like_skew h.nu) (like_skew h.omega)
 
-module _ {s : Signs} {u u' v v' : Se3Tangent} (h : LikeSe3Tangent s u u') (k : LikeSe3Tangent s v v') where
-  pub like_add_se3 : LikeSe3Tangent s (add_se3 u v) (add_se3 u' v')
+module _ {s : Signs} {t : Bool} {u u' v v' : Se3Tangent} (h : SignedSe3Tangent s t u u') (k : SignedSe3Tangent s t v v') where
+  pub like_add_se3 : SignedSe3Tangent s t (add_se3 u v) (add_se3 u' v')
   unfolding add_se3
   like_add_se3 = record { omega = like_add_vec3 h.omega k.omega; nu = like_add_vec3 h.nu k.nu }
 
-  pub like_sub_se3 : LikeSe3Tangent s (sub_se3 u v) (sub_se3 u' v')
+  pub like_sub_se3 : SignedSe3Tangent s t (sub_se3 u v) (sub_se3 u' v')
   unfolding sub_se3
   like_sub_se3 = record { omega = like_sub_vec3 h.omega k.omega; nu = like_sub_vec3 h.nu k.nu }
 
@@ -159,14 +158,14 @@ module _ {s b : Signs} {c c' : Se23} (h : LikeSe23 s b c c') where
     position = like_neg_vec3 (like_mul_mat3_vec3 (like_transpose h.rotation) h.position);
   }
 
-  pub like_adjoint_apply_se23 : {u u' : Se23Tangent} → LikeSe23Tangent b u u' → LikeSe23Tangent s (adjoint_apply_se23 c u) (adjoint_apply_se23 c' u')
+  pub like_adjoint_apply_se23 : {t : Bool} {u u' : Se23Tangent} → SignedSe23Tangent b t u u' → SignedSe23Tangent s t (adjoint_apply_se23 c u) (adjoint_apply_se23 c' u')
   unfolding adjoint_apply_se23
-  like_adjoint_apply_se23 {u} {u'} k =
-      let r_omega : LikeVec3 (axis s) (mul_mat3_vec3 c.rotation u.omega) (mul_mat3_vec3 c'.rotation u'.omega) = like_mul_mat3_vec3 h.rotation k.omega in
+  like_adjoint_apply_se23 {t} {u} {u'} k =
+      let r_omega : LikeVec3 (signed_axis s t) (mul_mat3_vec3 c.rotation u.omega) (mul_mat3_vec3 c'.rotation u'.omega) = like_rotated t h.rotation k.omega in
       record {
         omega = r_omega;
-        nu = like_add_vec3 (like_cross h.velocity r_omega) (like_mul_mat3_vec3 h.rotation k.nu);
-        rho = like_add_vec3 (like_cross h.position r_omega) (like_mul_mat3_vec3 h.rotation k.rho);
+        nu = like_add_vec3 (cross_right t h.velocity r_omega) (like_rotated t h.rotation k.nu);
+        rho = like_add_vec3 (cross_right t h.position r_omega) (like_rotated t h.rotation k.rho);
       }
 
   pub like_chi : LikeSe3 s b (chi c) (chi c')
@@ -193,11 +192,11 @@ module _ {s b : Signs} {c c' : Se3} (h : LikeSe3 s b c c') where
   unfolding adjoint_se3
   like_adjoint_se3 = like_blocks6 h.rotation (like_matmul (like_skew h.translation) h.rotation) h.rotation
 
-  pub like_adjoint_apply_se3 : {u u' : Se3Tangent} → LikeSe3Tangent b u u' → LikeSe3Tangent s (adjoint_apply_se3 c u) (adjoint_apply_se3 c' u')
+  pub like_adjoint_apply_se3 : {t : Bool} {u u' : Se3Tangent} → SignedSe3Tangent b t u u' → SignedSe3Tangent s t (adjoint_apply_se3 c u) (adjoint_apply_se3 c' u')
   unfolding adjoint_apply_se3
-  like_adjoint_apply_se3 {u} {u'} k =
-      let r_omega : LikeVec3 (axis s) (mul_mat3_vec3 c.rotation u.omega) (mul_mat3_vec3 c'.rotation u'.omega) = like_mul_mat3_vec3 h.rotation k.omega in
-      record { omega = r_omega; nu = like_add_vec3 (like_cross h.translation r_omega) (like_mul_mat3_vec3 h.rotation k.nu) }
+  like_adjoint_apply_se3 {t} {u} {u'} k =
+      let r_omega : LikeVec3 (signed_axis s t) (mul_mat3_vec3 c.rotation u.omega) (mul_mat3_vec3 c'.rotation u'.omega) = like_rotated t h.rotation k.omega in
+      record { omega = r_omega; nu = like_add_vec3 (cross_right t h.translation r_omega) (like_rotated t h.rotation k.nu) }
 
 pub like_exp_se3 : {s : Signs} {u u' : Se3Tangent} → LikeSe3Tangent s u u' → LikeSe3 s s (exp_se3 u) (exp_se3 u')
 unfolding exp_se3

@@ -16,12 +16,12 @@ use Rattle.drifters_real.specs.Real.{is_finite}
 use Rattle.drifters_matrix.specs.Matrix.{tab, matrix, zeros, transpose, sum_terms, matmul, mul_transpose, scaled, block_fits, in_block, set_block, all_finite, larger, from_diagonal, identity, mean, symmetrize, add_matrix, sub_matrix, neg_matrix}
 use Rattle.drifters_core.specs.Vec3.{row_times, mul_mat3_vec3}
 use Rattle.drifters_cholesky.specs.Cholesky.{sub_terms}
-use Rattle.drifters_demands.specs.Like.{Like, LikeList, LikeVec3, LikeMatrix}
+use Rattle.drifters_demands.specs.Like.{Like, Signs, axis, LikeList, LikeVec3, LikeMatrix}
 use Rattle.drifters_core.specs.declared.math.vec3.Vec3.{Vec3}
 use Rattle.drifters_matrix.specs.Shapes.{Mat3}
 use Rattle.drifters_matrix.proofs.Matrix.Tab.{get_d_tab}
 use Rattle.drifters_matrix.proofs.Matrix.Grid.{at_in, entry}
-use Rattle.drifters_demands.proofs.Signs.Sign.{unlike_comm, unlike_same, unlike_false, signs}
+use Rattle.drifters_demands.proofs.Signs.Sign.{unlike_comm, unlike_same, unlike_false, unlike_nots, signs, signed_axis}
 use Rattle.drifters_demands.proofs.Signs.Like.{cond_keeps_same, like_as, like_refl, like_plus_zero, like_neg, like_cond}
 use Rattle.drifters_demands.proofs.Signs.Ops.{like_add, like_sub, like_mul_as}
 use Rattle.drifters_demands.proofs.Signs.Compare.{like_lt, like_eq_zero}
@@ -196,3 +196,10 @@ like_mul_mat3_vec3 {σ} {τ} {m} {m'} {v} {v'} h k = record { x = row 0 (lit< tt
         like_add
         (like_add (like_mul_as (h.entry i 0 I (lit< tt)) k.x (simp signs)) (like_mul_as (h.entry i 1 I (lit< tt)) k.y (simp signs)))
         (like_mul_as (h.entry i 2 I (lit< tt)) k.z (simp signs))
+
+-- from the frame b to s, where the vector may have all its signs changed
+pub like_rotated : {s b : Signs} (t : Bool) {m m' : Mat3} {v v' : Vec3} → LikeMatrix (axis s) (axis b) 3 3 m.«data» m'.«data» → LikeVec3 (signed_axis b t) v v'
+    → LikeVec3 (signed_axis s t) (mul_mat3_vec3 m v) (mul_mat3_vec3 m' v')
+like_rotated false h k = like_mul_mat3_vec3 h k
+like_rotated {s} {b} true h k =
+    like_mul_mat3_vec3 {σ = signed_axis s true} {τ = signed_axis b true} record { entry = λ i j I J. like_as (sym (unlike_nots (axis s i) (axis b j))) (h.entry i j I J) } k

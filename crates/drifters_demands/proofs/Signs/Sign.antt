@@ -1,5 +1,5 @@
 -- The product of signs: `unlike s t` of `lib.Ieee` is a group of order two. `simp signs` proves an equation between such products. Assumes nothing.
-use mathlib.Core.Path.{◌≡◌, refl, ap, ◌∙◌}
+use mathlib.Core.Path.{◌≡◌, refl, sym, ap, ◌∙◌}
 use mathlib.Core.Bool.{Bool, true, false, not}
 use Prim.Native.Nat.{ℕ, zero, suc, ◌+◌, ◌*◌}
 use native.Mathlib.Nat.{zero-add}
@@ -20,6 +20,10 @@ pub false_unlike : (s : Bool) → unlike false s ≡ s
 false_unlike true = refl
 false_unlike false = refl
 
+unlike_true : (s : Bool) → unlike s true ≡ not s
+unlike_true true = refl
+unlike_true false = refl
+
 true_unlike : (s : Bool) → unlike true s ≡ not s
 true_unlike true = refl
 true_unlike false = refl
@@ -35,6 +39,12 @@ unlike_not true true = refl
 unlike_not true false = refl
 unlike_not false true = refl
 unlike_not false false = refl
+
+pub unlike_nots : (s t : Bool) → unlike (not s) (not t) ≡ unlike s t
+unlike_nots true true = refl
+unlike_nots true false = refl
+unlike_nots false true = refl
+unlike_nots false false = refl
 
 pub unlike_comm : (s t : Bool) → unlike s t ≡ unlike t s
 unlike_comm s t = ap not (bool_eq_equiv.symm s t)
@@ -91,3 +101,16 @@ module _ (s : Signs) where
     where
       next : (k i : ℕ) → 3 * suc k + i ≡ suc (suc (suc (3 * k + i)))
       next k i = omega arith
+
+-- ---- the signs of the axes, or, where t, all of them changed: so a unit vector is itself in a turned frame
+abbrev pub signed_axis : Signs → Bool → ℕ → Bool
+signed_axis s false = axis s
+signed_axis s true = λ i. not (axis s i)
+
+pub signed_axis_is : (s : Signs) (t : Bool) (i : ℕ) → signed_axis s t i ≡ unlike (axis s i) t
+signed_axis_is s false i = sym (unlike_false (axis s i))
+signed_axis_is s true i = sym (unlike_true (axis s i))
+
+pub signed_axis_add : (s : Signs) (t : Bool) (k i : ℕ) → signed_axis s t (3 * k + i) ≡ signed_axis s t i
+signed_axis_add s false k i = axis_add s k i
+signed_axis_add s true k i = ap not (axis_add s k i)

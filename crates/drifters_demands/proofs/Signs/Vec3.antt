@@ -1,8 +1,8 @@
 -- The definitions of Vec3.antt keep `LikeVec3`, with any three signs where nothing else is said. Assumes nothing.
-use mathlib.Core.Path.{◌≡◌, sym}
+use mathlib.Core.Path.{◌≡◌, refl, sym, ap, ◌∙◌}
 use Prim.Native.Nat.{ℕ, zero, suc, ◌<◌}
 use native.Mathlib.Omega.{arith}
-use mathlib.Core.Bool.{Bool, false}
+use mathlib.Core.Bool.{Bool, true, false, not}
 use lib.Dec.{lit<}
 use lib.ListN.{get_or}
 use lib.Ieee.{Float, nan, unlike}
@@ -12,7 +12,7 @@ use Rattle.drifters_matrix.specs.Matrix.{at}
 use Rattle.drifters_core.specs.Vec3.{zero_vec3, to_array, dot, cross, norm_squared, norm, div_vec3, normalized, mat3, skew, amax_vec3, add_vec3, sub_vec3, neg_vec3, mul_vec3}
 use Rattle.drifters_demands.specs.Like.{Like, Signs, axis, LikeList, LikeVec3, LikeMatrix}
 use Rattle.drifters_core.specs.declared.math.vec3.Vec3.{Vec3}
-use Rattle.drifters_demands.proofs.Signs.Sign.{unlike_same, unlike_false, axis_1_2, axis_2_1, axis_2_0, axis_0_2, axis_0_1, axis_1_0}
+use Rattle.drifters_demands.proofs.Signs.Sign.{unlike_same, unlike_false, not_unlike, unlike_not, axis_1_2, axis_2_1, axis_2_0, axis_0_2, axis_0_1, axis_1_0, signed_axis}
 use Rattle.drifters_demands.proofs.Signs.Like.{cond_keeps, like_as, like_refl, like_plus_zero, like_neg}
 use Rattle.drifters_demands.proofs.Signs.Ops.{like_add, like_sub, like_mul, like_mul_as, like_div_equal}
 use Rattle.drifters_demands.proofs.Signs.Compare.{like_lt, like_above}
@@ -22,9 +22,6 @@ use Rattle.drifters_demands.proofs.Signs.Matrix.{like_larger}
 -- ---- vectors from components
 pub like_zero_vec3 : {σ : ℕ → Bool} → LikeVec3 σ zero_vec3 zero_vec3
 like_zero_vec3 = record { x = like_plus_zero; y = like_plus_zero; z = like_plus_zero }
-
-pub like_vec3_refl : {v : Vec3} → LikeVec3 (λ i. false) v v
-like_vec3_refl = record { x = like_refl; y = like_refl; z = like_refl }
 
 -- what holds of 0, 1 and 2
 pub below_three : (P : ℕ → Type 0) → P 0 → P 1 → P 2 → (i : ℕ) → i < 3 → P i
@@ -104,13 +101,29 @@ unfolding normalized
 like_normalized {σ} h =
     cond_keeps (LikeNormalized σ) (like_lt (like_refl {x = plus_zero}) (like_norm h)) (λ e. both_units (like_div_vec3 h (like_above (like_norm h) e))) (λ e. both_none)
 
-pub like_cross : {s : Signs} {v v' w w' : Vec3} → LikeVec3 (axis s) v v' → LikeVec3 (axis s) w w' → LikeVec3 (axis s) (cross v w) (cross v' w')
+-- ---- the cross product, where one side may have all its signs changed
+cross_as : {s : Signs} {v v' w w' : Vec3} (f g e : Bool → Bool) → ((p q : Bool) → unlike (f p) (g q) ≡ e (unlike p q))
+    → LikeVec3 (λ i. f (axis s i)) v v' → LikeVec3 (λ i. g (axis s i)) w w' → LikeVec3 (λ i. e (axis s i)) (cross v w) (cross v' w')
 unfolding cross
-like_cross {s} h k = record {
-  x = like_sub (like_mul_as h.y k.z (axis_1_2 s)) (like_mul_as h.z k.y (axis_2_1 s));
-  y = like_sub (like_mul_as h.z k.x (axis_2_0 s)) (like_mul_as h.x k.z (axis_0_2 s));
-  z = like_sub (like_mul_as h.x k.y (axis_0_1 s)) (like_mul_as h.y k.x (axis_1_0 s));
+cross_as {s} f g e law h k = record {
+  x = like_sub (like_mul_as h.y k.z (sign 1 2 0 (axis_1_2 s))) (like_mul_as h.z k.y (sign 2 1 0 (axis_2_1 s)));
+  y = like_sub (like_mul_as h.z k.x (sign 2 0 1 (axis_2_0 s))) (like_mul_as h.x k.z (sign 0 2 1 (axis_0_2 s)));
+  z = like_sub (like_mul_as h.x k.y (sign 0 1 2 (axis_0_1 s))) (like_mul_as h.y k.x (sign 1 0 2 (axis_1_0 s)));
 }
+  where
+    sign : (i j l : ℕ) → unlike (axis s i) (axis s j) ≡ axis s l → unlike (f (axis s i)) (g (axis s j)) ≡ e (axis s l)
+    sign i j l a = law (axis s i) (axis s j) ∙ ap e a
+
+pub like_cross : {s : Signs} {v v' w w' : Vec3} → LikeVec3 (axis s) v v' → LikeVec3 (axis s) w w' → LikeVec3 (axis s) (cross v w) (cross v' w')
+like_cross h k = cross_as (λ p. p) (λ q. q) (λ r. r) (λ p q. refl) h k
+
+pub cross_right : {s : Signs} (t : Bool) {v v' w w' : Vec3} → LikeVec3 (axis s) v v' → LikeVec3 (signed_axis s t) w w' → LikeVec3 (signed_axis s t) (cross v w) (cross v' w')
+cross_right false h k = like_cross h k
+cross_right true h k = cross_as (λ p. p) not not unlike_not h k
+
+pub cross_left : {s : Signs} (t : Bool) {v v' w w' : Vec3} → LikeVec3 (signed_axis s t) v v' → LikeVec3 (axis s) w w' → LikeVec3 (signed_axis s t) (cross v w) (cross v' w')
+cross_left false h k = like_cross h k
+cross_left true h k = cross_as not (λ q. q) not not_unlike h k
 
 -- ---- 3 by 3 matrices
 module _ {σ τ : ℕ → Bool} {a b c d e f g h i a' b' c' d' e' f' g' h' i' : Float} where

@@ -8,9 +8,6 @@ use Rattle.drifters_covariance.specs.Covariance.{input_column}
 use Rattle.drifters_covariance.proofs.covariance.input_columns.Goals as goal
 
 pub returns : goal.returns
-unfolding input_column
 returns c =
-    let a = c.args in
-    let column = input_column a.x a.estimate a.gravity in
-    let quiet = rw (c.lift.ensures, c.input_of.ensures) at c.to_array-quiet.ensures in
-    c.from_columns.ensures ∙ columns_are 21 6 column (made_is [] column c.from_fn.ensures.items (λ k y q l e. rw (← quiet) (search rules)))
+    let column = input_column c.args.x c.args.estimate in
+    c.from_columns.ensures ∙ columns_are 21 6 column (made_is [] column c.from_fn.ensures.items (λ k y q l e. search rules))

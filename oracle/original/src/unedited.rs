@@ -1,0 +1,26 @@
+//! A propagation by filter.rs as it was published: its `process_noise` takes the input's columns from two lifts, subtracted. It is compared with nothing, and
+//! tells where the edit counts.
+use crate::places::FILTER;
+use crate::runs::{filter_of, run_of, Reader};
+use drifters_eqf::filter::EqFilter;
+use drifters_eqf::lift::Input;
+use drifters_eqf::unedited::filter::{EqFilter as Unedited, ProcessNoise};
+
+/// The run of a filter after an accepted propagation.
+pub fn propagated_unedited(run: &[f64], numbers: &[f64]) -> [f64; FILTER] {
+    let mut v = Reader::new(numbers);
+    let (u, dt) = (Input { omega: v.vec3(), accel: v.vec3() }, v.number());
+    let q = ProcessNoise {
+        gyro: v.vec3(),
+        accel: v.vec3(),
+        gyro_bias: v.vec3(),
+        accel_bias: v.vec3(),
+        lever: v.vec3(),
+        mag: v.vec3(),
+    };
+    let EqFilter { x, sigma, gravity, alpha } = filter_of(run);
+    let mut f = Unedited { x, sigma, gravity, alpha };
+    f.propagate(&u, dt, &q);
+    let Unedited { x, sigma, gravity, alpha } = f;
+    run_of(&EqFilter { x, sigma, gravity, alpha })
+}
