@@ -1,6 +1,7 @@
 //! Names the original's files of a package as modules: DRIFTERS is the folder of hewers/drifters. They are unedited but for one expression of
 //! filter.rs, and filter.rs unedited is `unedited::filter`.
-use std::{env, fs, path::Path};
+use std::path::{Path, PathBuf};
+use std::{env, fs};
 
 /// In `process_noise`: the linear part of the lift as a difference of two lifts, of which one takes the unit input `n`.
 const SUBTRACTED: &str = "Algebra::from_array(&sub(
@@ -27,26 +28,35 @@ fn main() {
     println!("cargo:rerun-if-env-changed=DRIFTERS");
     let root = env::var("DRIFTERS").expect("DRIFTERS: the folder of hewers/drifters at cd473baa36");
     let package = env::var("CARGO_PKG_NAME").unwrap();
-    let (folder, modules): (&str, &[&str]) = match package.as_str() {
-        "drifters-core" => ("src/math", &["real", "vec3", "matrix", "quat"]),
-        _ => ("src", &["lie", "group", "lift", "linear", "gcu"]),
+    let (folder, modules, to_edit): (&str, &[&str], Option<&str>) = match package.as_str() {
+        "drifters-core" => ("src/math", &["real", "vec3", "matrix", "quat"], None),
+        _ => ("src", &["lie", "group", "lift", "linear", "gcu"], Some("filter")),
     };
-    let folder = Path::new(&root).join("crates").join(&package).join(folder);
-    let out = env::var("OUT_DIR").unwrap();
-    let out = Path::new(&out);
+    let folder = Path::new(&root).join("crates").join(package).join(folder);
+    let out = PathBuf::from(env::var("OUT_DIR").unwrap());
     let mut text = String::new();
     for module in modules {
-        let file = folder.join(module).with_extension("rs");
-        println!("cargo:rerun-if-changed={}", file.display());
-        text += &format!("#[path = {:?}]\npub mod {};\n", file, module);
+        text += &module_at(module, &original(&folder, module));
     }
-    if package == "drifters-eqf" {
-        let (file, copy) = (folder.join("filter.rs"), out.join("filter.rs"));
-        println!("cargo:rerun-if-changed={}", file.display());
+    if let Some(module) = to_edit {
+        let (file, copy) = (original(&folder, module), out.join(module).with_extension("rs"));
         fs::write(&copy, edited(&fs::read_to_string(&file).unwrap())).unwrap();
         // The edit leaves the quiet lift and the subtraction of arrays without use.
-        text += &format!("#[allow(unused_variables, dead_code)]\n#[path = {copy:?}]\npub mod filter;\n");
-        text += &format!("pub mod unedited {{\n#[path = {file:?}]\npub mod filter;\n}}\n");
+        text += "#[allow(unused_variables, dead_code)]\n";
+        text += &module_at(module, &copy);
+        text += &format!("pub mod unedited {{\n{}}}\n", module_at(module, &file));
     }
     fs::write(out.join("modules.rs"), text).unwrap();
+}
+
+/// The original's file of a module.
+fn original(folder: &Path, module: &str) -> PathBuf {
+    let file = folder.join(module).with_extension("rs");
+    println!("cargo:rerun-if-changed={}", file.display());
+    file
+}
+
+/// The declaration of a module in a file.
+fn module_at(module: &str, file: &Path) -> String {
+    format!("#[path = {file:?}]\npub mod {module};\n")
 }

@@ -229,7 +229,7 @@ fn all_compasses(axis: &str, signs: &Signs) -> u64 {
     differ
 }
 
-/// The logs of the seeds below a count about an axis.
+/// The tally of the logs of so many seeds, each beside its twin that these signs turn.
 fn all_logs(seeds: u64, log: impl Fn(u64) -> Log + Sync, signs: &Signs) -> Tally {
     let one_thread = |seeds: &mut dyn Iterator<Item = u64>| seeds.map(|seed| compare_log(&log(seed), signs)).fold(Tally::default(), Tally::add);
     in_threads(seeds, one_thread).into_iter().fold(Tally::default(), Tally::add)

@@ -5,7 +5,7 @@ use drifters_core::math::Vec3;
 use original::filter_of;
 use original::places::{DT, E, FILTER, GAMMA, PROPAGATION, SIGMA, VELOCITY};
 
-/// The powers of ten that the halves of the bias are drawn from.
+/// How many powers of ten, from 1 on, the size of each half of the bias is one of.
 const POWERS: usize = 20;
 
 /// How many propagations a log has.
@@ -25,7 +25,7 @@ fn start(n: &mut Numbers, sizes: [f64; 2]) -> Vec<f64> {
 }
 
 /// A propagation whose rate is near the bias of the gyroscope, so that its turn is small, and whose acceleration is near that of the accelerometer. Numbers
-/// of the size of the bias are apart by so much, that only a short step keeps the turn below 8.
+/// as large as the bias lie so far apart that the step must be short for most turns to stay below 8.
 fn propagation(n: &mut Numbers, bias: [Vec3; 2], size: f64) -> Vec<f64> {
     let most = (2.0 / (1.0 + size * f64::EPSILON)).min(n.one_of(&[0.01, 0.01, 2.0]));
     let omega = bias[0] + Vec3::from_array(n.withins(1.0));
@@ -47,8 +47,8 @@ pub fn biased(n: &mut Numbers) -> Log {
     Log { run, calls }
 }
 
-/// The smallest propagation at which the one edit counts: beside a rate of 1e16 the unit input is rounded away. With no covariance before it the first
-/// variance is 1 after it, the density over a step of 1; as the original was published it stays 0.
+/// A propagation of few numbers at which the one edit counts: beside a bias of 1e16 the unit input is rounded away. With no covariance before it the first
+/// variance is 1 after it, the density over a step of 1; by the original unedited it stays 0.
 pub fn rounded_away() -> Log {
     let mut run = vec![0.0; FILTER];
     run[..VELOCITY].iter_mut().step_by(4).for_each(|x| *x = 1.0);

@@ -1,4 +1,4 @@
-//! Inputs for the comparison and the measurements, from fixed seeds: numbers, flights, logs of calls, compasses and call sheets.
+//! Inputs for the comparison and the measurements, from fixed seeds: numbers, flights, logs of calls, propagations with large biases, compasses and call sheets.
 mod biased;
 mod compasses;
 mod flight;

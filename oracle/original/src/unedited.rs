@@ -1,4 +1,4 @@
-//! A propagation by filter.rs as it was published: its `process_noise` takes the input's columns from two lifts, subtracted. It is compared with nothing, and
+//! A propagation by filter.rs unedited: its `process_noise` takes the input's columns from two lifts, subtracted. No call of the port is held to it; it
 //! tells where the edit counts.
 use crate::places::FILTER;
 use crate::runs::{filter_of, run_of, Reader};
@@ -6,7 +6,7 @@ use drifters_eqf::filter::EqFilter;
 use drifters_eqf::lift::Input;
 use drifters_eqf::unedited::filter::{EqFilter as Unedited, ProcessNoise};
 
-/// The run of a filter after an accepted propagation.
+/// The run of a filter after a propagation, which no check stops.
 pub fn propagated_unedited(run: &[f64], numbers: &[f64]) -> [f64; FILTER] {
     let mut v = Reader::new(numbers);
     let (u, dt) = (Input { omega: v.vec3(), accel: v.vec3() }, v.number());

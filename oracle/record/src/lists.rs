@@ -181,12 +181,12 @@ fn scalar(name: &'static str, seed: u64, alpha: f64) -> List {
     list
 }
 
-/// The propagations of a log, which are all accepted. As the original was published each leaves another filter.
+/// The propagations of a log, which are all accepted. The original unedited leaves another filter at each.
 fn propagated(name: &'static str, log: Log) -> List {
     let mut list = List::new(name, &log.run);
     for call in log.calls {
-        let published = propagated_unedited(&list.run, &call.1);
-        assert!(matches!(list.add(call), Answer::Fine) && list.run != published, "{name}");
+        let unedited = propagated_unedited(&list.run, &call.1);
+        assert!(matches!(list.add(call), Answer::Fine) && list.run != unedited, "{name}");
     }
     list
 }

@@ -7,7 +7,6 @@ use native.Mathlib.Omega.{arith}
 use lib.Dec.{lit<}
 use lib.Ieee.{Float}
 use Rattle.std.specs.Prelude.{Option}
-use Rattle.drifters_matrix.specs.Matrix.{set_block}
 use Rattle.drifters_demands.specs.Like.{Like, Signs, axis, LikeList, LikeVec3, LikeMatrix, no_turn}
 use Rattle.drifters_demands.specs.Turn.{then_signs}
 use Rattle.drifters_core.specs.declared.math.vec3.Vec3.{Vec3}
@@ -16,8 +15,8 @@ use Rattle.drifters_demands.proofs.Signs.Like.{cond_keeps, like_as, like_refl}
 use Rattle.drifters_demands.proofs.Signs.Ops.{like_mul}
 use Rattle.drifters_demands.proofs.Signs.Compare.{like_le}
 use Rattle.drifters_demands.proofs.Signs.Real.{like_abs}
-use Rattle.drifters_demands.proofs.Signs.Vec3.{like_zero_vec3, like_to_array, like_sub_vec3, cross_right, like_norm, LikeNormalized, both_units, both_none, like_normalized, like_skew}
-use Rattle.drifters_demands.proofs.Signs.Matrix.{like_zeros, like_matrix_as, like_column, like_of_column, like_transpose, like_add_matrix, like_matmul, like_mul_transpose, like_from_diagonal, like_identity, like_symmetrize, like_set_block, like_mul_mat3_vec3, like_rotated}
+use Rattle.drifters_demands.proofs.Signs.Vec3.{like_zero_vec3, like_to_array, like_sub_vec3, like_cross_right, like_norm, LikeNormalized, both_units, both_none, like_normalized, like_skew}
+use Rattle.drifters_demands.proofs.Signs.Matrix.{like_zeros, like_column, like_of_column, like_transpose, like_add_matrix, like_matmul, like_mul_transpose, like_from_diagonal, like_identity, like_symmetrize, like_mul_mat3_vec3, like_rotated}
 use Rattle.drifters_demands.proofs.Signs.Cholesky.{LikeFactor, like_cholesky, like_solve}
 use Rattle.drifters_demands.proofs.Signs.Numeral.{scaled_of, neg_matrix_of, add_matrix_of, sub_matrix_of}
 use Rattle.drifters_covariance.specs.Covariance.{transition, linear_lift, input_column, bias_column, noise_map, psd, process_noise, joseph, reset_sigma}
@@ -31,7 +30,7 @@ use Rattle.drifters_covariance.specs.declared.covariance.ProcessNoise.{ProcessNo
 use Rattle.drifters_eqf.specs.declared.filter.EqFilter.{EqFilter}
 use Rattle.drifters_demands.proofs.Signs.GroupRecords.{axis_no_turn, SignedSe3Tangent, SignedAlgebra, LikeSymmetry, LikeAlgebra, LikeState, LikeInput}
 use Rattle.drifters_demands.proofs.Signs.FilterRecords.{LikeProcessNoise, LikeFilter, both_nis_lem, both_fine, both_refused_lem, LikeAnswered, LikeMeasurement, LikeMeasured, both_measured, both_unmeasured}
-use Rattle.drifters_demands.proofs.Signs.Lie.{like_to_array_append, like_to_array_se3, like_from_array_se3, like_bracket_se3, like_chi, like_adjoint_apply_se3}
+use Rattle.drifters_demands.proofs.Signs.Lie.{like_set_block_rows, like_to_array_append, like_to_array_se3, like_from_array_se3, like_bracket_se3, like_chi, like_adjoint_apply_se3}
 use Rattle.drifters_demands.proofs.Signs.Group.{like_compose, like_to_array21, like_scaled_algebra, like_from_array21, like_unit, like_columns, like_ad, like_exp, like_adjoint_apply, like_default_state, like_act_state}
 use Rattle.drifters_demands.proofs.Signs.Lift.{like_lift}
 use Rattle.drifters_demands.proofs.Signs.Linear.{like_state_matrix, like_direction_output_matrix, like_position_output_matrix, like_velocity_output_matrix, like_transported_direction, like_transported_position, like_transported_velocity}
@@ -66,8 +65,8 @@ module _ {s b m : Signs} {f f' : EqFilter} {u u' : Input} {dt dt' : Float} (F : 
 pub like_transition : {σ : ℕ → Bool} {a a' : List Float} {dt dt' : Float} → LikeMatrix σ σ 21 21 a a' → Like false dt dt' → LikeMatrix σ σ 21 21 (transition a dt) (transition a' dt')
 unfolding transition
 like_transition h k =
-    let aDt = scaled_of h refl k in
-    add_matrix_of (add_matrix_of like_identity refl aDt) refl (scaled_of (like_matmul aDt aDt) refl like_refl)
+    let a_dt = scaled_of h refl k in
+    add_matrix_of (add_matrix_of like_identity refl a_dt) refl (scaled_of (like_matmul a_dt a_dt) refl like_refl)
 
 -- ---- propagation: the noise
 pub like_linear_lift : {s b m : Signs} {t : Bool} {xi xi' : State} {w w' : Se3Tangent} → LikeState s b m xi xi' → SignedSe3Tangent b t w w'
@@ -76,7 +75,7 @@ unfolding linear_lift
 like_linear_lift {t} h k = record {
   c = record { omega = k.omega; nu = k.nu; rho = like_zero_vec3 };
   gamma = like_bracket_se3 h.bias k;
-  delta = cross_right t h.lever k.omega;
+  delta = like_cross_right t h.lever k.omega;
   e = like_rotated t (like_transpose h.mag) k.omega;
 }
 
@@ -93,20 +92,17 @@ module _ {s b m : Signs} {x x' : Symmetry} (X : LikeSymmetry s b s m x x') where
   unfolding bias_column
   like_bias_column k = like_to_array_se3 (like_adjoint_apply_se3 (like_chi X.c) (like_from_array_se3 (like_unit b 6 k)))
 
-  -- a block of columns from place 3 q on, all in the body frame
-  body_columns : (p q : ℕ) {br bc : ℕ} {a a' e e' : List Float} → 3 * q + bc < 16 → LikeMatrix (axis s) (noise_columns b m) 21 18 a a'
-      → LikeMatrix (axis s) (axis b) br bc e e' → LikeMatrix (axis s) (noise_columns b m) 21 18 (set_block 21 18 br bc (3 * p) (3 * q) a e) (set_block 21 18 br bc (3 * p) (3 * q) a' e')
-  body_columns p q {bc} Q h k =
-      like_set_block (3 * p) (3 * q) h
-      (like_matrix_as (λ i I. sym (axis_add s p i)) (λ j J. sym (then_before 15 (axis b) (axis m) (3 * q + j) (omega (arith, Q, J)) ∙ axis_add b q j)) k)
+  -- n columns from place 3 q on are in the body frame
+  body_columns : (q n : ℕ) → 3 * q + n < 16 → (j : ℕ) → j < n → axis b j ≡ noise_columns b m (3 * q + j)
+  body_columns q n N j J = sym (then_before 15 (axis b) (axis m) (3 * q + j) (omega (arith, N, J)) ∙ axis_add b q j)
 
   pub like_noise_map : {r : Signs} {xi xi' : State} → LikeState r b m xi xi' → LikeMatrix (axis s) (noise_columns b m) 21 18 (noise_map x xi) (noise_map x' xi')
   unfolding noise_map
   like_noise_map E =
-      let a = body_columns 0 0 (lit< tt) (like_zeros {r = 21} {c = 18}) (like_columns {r = 21} {c = 6} (like_input_column E)) in
-      let a = body_columns 3 2 (lit< tt) a (neg_matrix_of (like_columns {r = 6} {c = 6} like_bias_column) refl) in
-      let a = body_columns 5 4 (lit< tt) a (neg_matrix_of X.c.rotation refl) in
-      like_set_block (3 * 6) 15 a (like_matrix_as (λ i I. sym (axis_add s 6 i)) (λ j J. sym (then_after 15 (axis b) (axis m) j)) X.e)
+      let a = like_set_block_rows 0 0 (body_columns 0 6 (lit< tt)) (like_zeros {r = 21} {c = 18}) (like_columns {r = 21} {c = 6} (like_input_column E)) in
+      let a = like_set_block_rows 3 6 (body_columns 2 6 (lit< tt)) a (neg_matrix_of (like_columns {r = 6} {c = 6} like_bias_column) refl) in
+      let a = like_set_block_rows 5 12 (body_columns 4 3 (lit< tt)) a (neg_matrix_of X.c.rotation refl) in
+      like_set_block_rows 6 15 (λ j J. sym (then_after 15 (axis b) (axis m) j)) a X.e
 
 pub like_psd : {q q' : ProcessNoise} → LikeProcessNoise q q' → LikeList (axis no_turn) 18 (psd q) (psd q')
 like_psd h =

@@ -15,7 +15,7 @@ use Rattle.drifters_core.specs.declared.math.vec3.Vec3.{Vec3}
 use Rattle.drifters_demands.proofs.Signs.Sign.{unlike_same, signed_axis, signed_axis_is, signed_axis_add}
 use Rattle.drifters_demands.proofs.Signs.Like.{like_as, like_refl, like_plus_zero}
 use Rattle.drifters_demands.proofs.Signs.Matrix.{like_matrix, like_column, like_of_column, like_transpose, like_matmul, like_identity, like_mul_mat3_vec3, like_rotated}
-use Rattle.drifters_demands.proofs.Signs.Vec3.{like_zero_vec3, like_to_array, like_add_vec3, like_sub_vec3, like_neg_vec3, like_mul_vec3, like_cross, cross_right, cross_left}
+use Rattle.drifters_demands.proofs.Signs.Vec3.{like_zero_vec3, like_to_array, like_add_vec3, like_sub_vec3, like_neg_vec3, like_mul_vec3, like_cross, like_cross_right, like_cross_left}
 use Rattle.drifters_demands.proofs.Signs.Quat.{like_from_rotation_vector, like_to_dcm}
 use Rattle.drifters_symmetry.specs.Group.{compose, inverse, to_array21, scaled_algebra, from_array21, bracket, ad, exp, adjoint_apply, default_state, act_state, act_direction, act_position, act_velocity}
 use Rattle.drifters_symmetry.specs.declared.group.Symmetry.{Symmetry}
@@ -75,13 +75,13 @@ pub like_bracket : {s m : Signs} {t : Bool} {u u' v v' : Algebra} → LikeAlgebr
 unfolding bracket
 like_bracket {t} h k = record {
   c = record {
-    omega = cross_right t h.c.omega k.c.omega;
-    nu = like_sub_vec3 (cross_right t h.c.omega k.c.nu) (cross_left t k.c.omega h.c.nu);
-    rho = like_sub_vec3 (cross_right t h.c.omega k.c.rho) (cross_left t k.c.omega h.c.rho);
+    omega = like_cross_right t h.c.omega k.c.omega;
+    nu = like_sub_vec3 (like_cross_right t h.c.omega k.c.nu) (like_cross_left t k.c.omega h.c.nu);
+    rho = like_sub_vec3 (like_cross_right t h.c.omega k.c.rho) (like_cross_left t k.c.omega h.c.rho);
   };
   gamma = like_add_se3 (like_bracket_se3 h.gamma (like_pi k.c)) (like_bracket_se3 (like_pi h.c) k.gamma);
-  delta = like_add_vec3 (cross_right t h.delta k.c.omega) (cross_right t h.c.omega k.delta);
-  e = cross_right t h.e k.e;
+  delta = like_add_vec3 (like_cross_right t h.delta k.c.omega) (like_cross_right t h.c.omega k.delta);
+  e = like_cross_right t h.e k.e;
 }
 
 -- the one has no sign, and the zeros every sign
@@ -120,7 +120,7 @@ like_adjoint_apply {t} h k = record {
       like_add_se3
       (like_bracket_se3 h.gamma (like_adjoint_apply_se3 (like_chi h.c) (like_pi k.c)))
       (like_adjoint_apply_se3 (like_chi h.c) k.gamma);
-  delta = like_add_vec3 (cross_right t h.delta (like_rotated t h.c.rotation k.c.omega)) (like_rotated t h.c.rotation k.delta);
+  delta = like_add_vec3 (like_cross_right t h.delta (like_rotated t h.c.rotation k.c.omega)) (like_rotated t h.c.rotation k.delta);
   e = like_rotated t h.e k.e;
 }
 

@@ -20,8 +20,8 @@ axis_no_turn (suc zero) = refl
 axis_no_turn (suc (suc zero)) = refl
 axis_no_turn (suc (suc (suc i))) = axis_no_turn i
 
--- elements of the algebras, with the signs of a frame or, where t, all of these changed: a unit element is itself in a turned frame but for one
--- sign, and the columns of `ad` and of the noise map are made of such
+-- elements of the algebras, with the signs of a frame or, where t, all of these changed: a turn changes a unit element by one sign alone, that of
+-- its axis, and so the columns that are made from unit elements
 pub record SignedSe3Tangent (s : Signs) (t : Bool) (u v : Se3Tangent) : Type 0 where
   pub omega : LikeVec3 (signed_axis s t) u.omega v.omega
   pub nu : LikeVec3 (signed_axis s t) u.nu v.nu

@@ -21,7 +21,7 @@ use Rattle.drifters_demands.proofs.Signs.Ops.{like_add, like_sub, like_square, l
 use Rattle.drifters_demands.proofs.Signs.Compare.{like_lt, like_not_lt}
 use Rattle.drifters_demands.proofs.Signs.Real.{like_sqrt, like_sin, like_cos, like_max}
 use Rattle.drifters_demands.proofs.Signs.Matrix.{like_zeros, like_matrix_as, like_transpose, like_matmul, like_set_block, like_identity, like_mul_mat3_vec3, like_rotated}
-use Rattle.drifters_demands.proofs.Signs.Vec3.{like_zero_vec3, like_to_array, like_add_vec3, like_sub_vec3, like_neg_vec3, like_mul_vec3, cross_right, like_norm_squared, like_skew, like_amax_vec3}
+use Rattle.drifters_demands.proofs.Signs.Vec3.{like_zero_vec3, like_to_array, like_add_vec3, like_sub_vec3, like_neg_vec3, like_mul_vec3, like_cross_right, like_norm_squared, like_skew, like_amax_vec3}
 use Rattle.drifters_demands.proofs.Signs.Quat.{like_from_rotation_vector, like_to_dcm}
 use Rattle.drifters_demands.proofs.Signs.Numeral.{scaled_of, add_matrix_of}
 use Rattle.drifters_lie.specs.Lie.{zero_se3_tangent, scaled_se23, pi, to_array_se3, vec3_at, from_array_se3, scaled_se3, bracket_se3, blocks6, ad_se3, add_se3, sub_se3, neg_se3, add_se23, small_angle_sq, jacobian_a, jacobian_b, left_jacobian, identity_se23, compose_se23, inverse_se23, adjoint_apply_se23, chi, exp_se23, inverse_se3, adjoint_se3, adjoint_apply_se3, exp_se3}
@@ -33,9 +33,13 @@ use Rattle.drifters_lie.specs.declared.lie.Se3.{Se3}
 use Rattle.drifters_demands.proofs.Signs.GroupRecords.{SignedSe3Tangent, SignedSe23Tangent, LikeSe3Tangent, LikeSe23Tangent, LikeSe23, LikeSe3}
 
 -- ---- parts at multiples of three, where the signs of the axes begin anew
+pub like_set_block_rows : {s : Signs} {τ υ : ℕ → Bool} {r c br bc : ℕ} {a a' e e' : List Float} (p o : ℕ) → ((j : ℕ) → j < bc → υ j ≡ τ (o + j))
+    → LikeMatrix (axis s) τ r c a a' → LikeMatrix (axis s) υ br bc e e' → LikeMatrix (axis s) τ r c (set_block r c br bc (3 * p) o a e) (set_block r c br bc (3 * p) o a' e')
+like_set_block_rows {s} p o f h k = like_set_block (3 * p) o h (like_matrix_as (λ i I. sym (axis_add s p i)) f k)
+
 pub like_set_block_axis : {s b : Signs} {r c br bc : ℕ} {a a' e e' : List Float} (p q : ℕ) → LikeMatrix (axis s) (axis b) r c a a' → LikeMatrix (axis s) (axis b) br bc e e'
     → LikeMatrix (axis s) (axis b) r c (set_block r c br bc (3 * p) (3 * q) a e) (set_block r c br bc (3 * p) (3 * q) a' e')
-like_set_block_axis {s} {b} p q h k = like_set_block (3 * p) (3 * q) h (like_matrix_as (λ i I. sym (axis_add s p i)) (λ j J. sym (axis_add b q j)) k)
+like_set_block_axis {b} p q h k = like_set_block_rows p (3 * q) (λ j J. sym (axis_add b q j)) h k
 
 -- a vector in front of a list, where the signs begin anew after every third
 pub like_to_array_append : {σ : ℕ → Bool} → ((k i : ℕ) → σ (3 * k + i) ≡ σ i) → {n : ℕ} {v v' : Vec3} {a a' : List Float} → LikeVec3 σ v v' → LikeList σ n a a'
@@ -79,7 +83,7 @@ like_from_array_se3 {s} {t} h = record { omega = like_vec3_at (signed_axis_add s
 
 pub like_bracket_se3 : {s : Signs} {t : Bool} {u u' v v' : Se3Tangent} → LikeSe3Tangent s u u' → SignedSe3Tangent s t v v' → SignedSe3Tangent s t (bracket_se3 u v) (bracket_se3 u' v')
 unfolding bracket_se3
-like_bracket_se3 {t} h k = record { omega = cross_right t h.omega k.omega; nu = like_add_vec3 (cross_right t h.nu k.omega) (cross_right t h.omega k.nu) }
+like_bracket_se3 {t} h k = record { omega = like_cross_right t h.omega k.omega; nu = like_add_vec3 (like_cross_right t h.nu k.omega) (like_cross_right t h.omega k.nu) }
 
 pub like_blocks6 : {s b : Signs} {p p' q q' r r' : Mat3} → LikeMatrix (axis s) (axis b) 3 3 p.«data» p'.«data» → LikeMatrix (axis s) (axis b) 3 3 q.«data» q'.«data»
     → LikeMatrix (axis s) (axis b) 3 3 r.«data» r'.«data» → LikeMatrix (axis s) (axis b) 6 6 (blocks6 p q r) (blocks6 p' q' r')
@@ -164,8 +168,8 @@ module _ {s b : Signs} {c c' : Se23} (h : LikeSe23 s b c c') where
       let r_omega : LikeVec3 (signed_axis s t) (mul_mat3_vec3 c.rotation u.omega) (mul_mat3_vec3 c'.rotation u'.omega) = like_rotated t h.rotation k.omega in
       record {
         omega = r_omega;
-        nu = like_add_vec3 (cross_right t h.velocity r_omega) (like_rotated t h.rotation k.nu);
-        rho = like_add_vec3 (cross_right t h.position r_omega) (like_rotated t h.rotation k.rho);
+        nu = like_add_vec3 (like_cross_right t h.velocity r_omega) (like_rotated t h.rotation k.nu);
+        rho = like_add_vec3 (like_cross_right t h.position r_omega) (like_rotated t h.rotation k.rho);
       }
 
   pub like_chi : LikeSe3 s b (chi c) (chi c')
@@ -196,7 +200,7 @@ module _ {s b : Signs} {c c' : Se3} (h : LikeSe3 s b c c') where
   unfolding adjoint_apply_se3
   like_adjoint_apply_se3 {t} {u} {u'} k =
       let r_omega : LikeVec3 (signed_axis s t) (mul_mat3_vec3 c.rotation u.omega) (mul_mat3_vec3 c'.rotation u'.omega) = like_rotated t h.rotation k.omega in
-      record { omega = r_omega; nu = like_add_vec3 (cross_right t h.translation r_omega) (like_rotated t h.rotation k.nu) }
+      record { omega = r_omega; nu = like_add_vec3 (like_cross_right t h.translation r_omega) (like_rotated t h.rotation k.nu) }
 
 pub like_exp_se3 : {s : Signs} {u u' : Se3Tangent} → LikeSe3Tangent s u u' → LikeSe3 s s (exp_se3 u) (exp_se3 u')
 unfolding exp_se3

@@ -102,7 +102,7 @@ module _ (s : Signs) where
       next : (k i : ℕ) → 3 * suc k + i ≡ suc (suc (suc (3 * k + i)))
       next k i = omega arith
 
--- ---- the signs of the axes, or, where t, all of them changed: so a unit vector is itself in a turned frame
+-- ---- the signs of the axes, or, where t, all of them changed: a turn changes unit vector k by these, where t is the sign of axis k
 abbrev pub signed_axis : Signs → Bool → ℕ → Bool
 signed_axis s false = axis s
 signed_axis s true = λ i. not (axis s i)

@@ -101,7 +101,8 @@ unfolding normalized
 like_normalized {σ} h =
     cond_keeps (LikeNormalized σ) (like_lt (like_refl {x = plus_zero}) (like_norm h)) (λ e. both_units (like_div_vec3 h (like_above (like_norm h) e))) (λ e. both_none)
 
--- ---- the cross product, where one side may have all its signs changed
+-- ---- the cross product
+-- where f and g change the signs of its sides, and e those of the result
 cross_as : {s : Signs} {v v' w w' : Vec3} (f g e : Bool → Bool) → ((p q : Bool) → unlike (f p) (g q) ≡ e (unlike p q))
     → LikeVec3 (λ i. f (axis s i)) v v' → LikeVec3 (λ i. g (axis s i)) w w' → LikeVec3 (λ i. e (axis s i)) (cross v w) (cross v' w')
 unfolding cross
@@ -117,13 +118,14 @@ cross_as {s} f g e law h k = record {
 pub like_cross : {s : Signs} {v v' w w' : Vec3} → LikeVec3 (axis s) v v' → LikeVec3 (axis s) w w' → LikeVec3 (axis s) (cross v w) (cross v' w')
 like_cross h k = cross_as (λ p. p) (λ q. q) (λ r. r) (λ p q. refl) h k
 
-pub cross_right : {s : Signs} (t : Bool) {v v' w w' : Vec3} → LikeVec3 (axis s) v v' → LikeVec3 (signed_axis s t) w w' → LikeVec3 (signed_axis s t) (cross v w) (cross v' w')
-cross_right false h k = like_cross h k
-cross_right true h k = cross_as (λ p. p) not not unlike_not h k
+-- where one side may have all its signs changed
+pub like_cross_right : {s : Signs} (t : Bool) {v v' w w' : Vec3} → LikeVec3 (axis s) v v' → LikeVec3 (signed_axis s t) w w' → LikeVec3 (signed_axis s t) (cross v w) (cross v' w')
+like_cross_right false h k = like_cross h k
+like_cross_right true h k = cross_as (λ p. p) not not unlike_not h k
 
-pub cross_left : {s : Signs} (t : Bool) {v v' w w' : Vec3} → LikeVec3 (signed_axis s t) v v' → LikeVec3 (axis s) w w' → LikeVec3 (signed_axis s t) (cross v w) (cross v' w')
-cross_left false h k = like_cross h k
-cross_left true h k = cross_as not (λ q. q) not not_unlike h k
+pub like_cross_left : {s : Signs} (t : Bool) {v v' w w' : Vec3} → LikeVec3 (signed_axis s t) v v' → LikeVec3 (axis s) w w' → LikeVec3 (signed_axis s t) (cross v w) (cross v' w')
+like_cross_left false h k = like_cross h k
+like_cross_left true h k = cross_as not (λ q. q) not not_unlike h k
 
 -- ---- 3 by 3 matrices
 module _ {σ τ : ℕ → Bool} {a b c d e f g h i a' b' c' d' e' f' g' h' i' : Float} where

@@ -188,14 +188,6 @@ impl<const R: usize, const C: usize, const N: usize> Matrix<R, C, N> {
         runs::add_scaled(&mut self.data, s, &rhs.data, 0);
     }
 
-    pub fn sub(self, rhs: Matrix<R, C, N>) -> Matrix<R, C, N>
-        ensures { result.data ≡ sub_matrix N self.entry.data rhs.entry.data }
-    {
-        let mut out = self;
-        out.sub_in(&rhs);
-        out
-    }
-
     pub fn sub_in(&mut self, rhs: &Matrix<R, C, N>)
         ensures { self.new.data ≡ sub_matrix N self.old.data rhs.now.data }
     {
