@@ -20,8 +20,8 @@ axis_no_turn (suc zero) = refl
 axis_no_turn (suc (suc zero)) = refl
 axis_no_turn (suc (suc (suc i))) = axis_no_turn i
 
--- elements of the algebras, with the signs of a frame or, where t, all of these changed: a turn changes a unit element by one sign alone, that of
--- its axis, and so the columns that are made from unit elements
+-- elements of the algebras, with the signs of a frame or, where t, all of these changed: so unit element k is alike to itself, where t is the sign
+-- of axis k, and a column that is made from it has the signs of its frame in this way
 pub record SignedSe3Tangent (s : Signs) (t : Bool) (u v : Se3Tangent) : Type 0 where
   pub omega : LikeVec3 (signed_axis s t) u.omega v.omega
   pub nu : LikeVec3 (signed_axis s t) u.nu v.nu
