@@ -12,9 +12,9 @@ use Rattle.std.specs.Simd.{first_chunks}
 use lib.Ieee.{Float}
 use Rattle.drifters_eqf.specs.Answer.{Answer, Nis, Fine, Refused}
 use Rattle.drifters_entry.specs.Entry.{Outcome, outcome, call}
-use Rattle.drifters_entry.specs.Layout.{part}
+use Rattle.drifters_entry.specs.Layout.{three_alphas, part}
 use Rattle.drifters_kind.specs.declared.kind.Kind.TheVariants.{Direction}
-use Rattle.drifters_compasses.specs.Compasses.{BestTry, reading, reading_length, direction_numbers, attempt, takes_place, better_by, better, best_of}
+use Rattle.drifters_compasses.specs.Compasses.{BestTry, reading, reading_length, direction_numbers, attempt_in, takes_place, better_by, better, best_of}
 use Rattle.drifters_compasses.specs.Kept.{best_try, attempt_by, attempt_of}
 use Rattle.drifters_compasses.specs.declared.compasses.Best.{Best}
 
@@ -63,8 +63,8 @@ best_same f g (suc k) h = ap₂ (λ (b : BestTry) (o : Outcome). better b k o) (
 
 -- the best of the first k readings of a run, which is cut into n
 pub best_of_first : (run readings north_noise : List Float) (n k : ℕ) {cut : List (List Float)} → cut ≡ first_chunks reading_length n readings → length cut ≡ n → k ≤ n →
-    best_of (attempt_of run (take k cut) north_noise) (length (take k cut)) ≡ best_of (attempt run readings north_noise) k
-unfolding attempt_by attempt direction_numbers
+    best_of (attempt_of run (take k cut) north_noise) (length (take k cut)) ≡ best_of (attempt_in three_alphas run readings north_noise) k
+unfolding attempt_by attempt_in direction_numbers
 best_of_first run readings north_noise n k {cut} is long le =
     let m : length (take k cut) ≡ k = simp (length-take) (omega arith) in
     ap (best_of (attempt_of run (take k cut) north_noise)) m

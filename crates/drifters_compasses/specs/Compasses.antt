@@ -6,8 +6,8 @@ use Rattle.drifters_eqf.specs.Answer.{length_refusal, blank_refusal, refusal_num
 use Rattle.drifters_eqf.specs.Answer as direction
 use Rattle.drifters_eqf.specs.declared.answer.Refusal.{Refusal}
 use Rattle.drifters_kind.specs.declared.kind.Kind.TheVariants.{Direction}
-use Rattle.drifters_entry.specs.Layout.{filter_length, part}
-use Rattle.drifters_entry.specs.Entry.{Outcome, call}
+use Rattle.drifters_entry.specs.Layout.{Layout, three_alphas, part}
+use Rattle.drifters_entry.specs.Entry.{Outcome, call_in}
 use Rattle.drifters_compasses.specs.declared.compasses.Best.{Best}
 use Rattle.drifters_compasses.specs.declared.compasses.Tried.{Tried}
 
@@ -28,10 +28,14 @@ abbrev pub count_of : ℕ → ℕ
 count_of n = n / reading_length
 
 -- the filter's run, the readings, from one to the most of them, and north with noise have their stated lengths, and the budget is at most the most
-abbrev pub compasses_fit : ℕ → ℕ → ℕ → ℕ → Bool
-compasses_fit run readings north_noise budget =
-    eqb run filter_length && eqb (readings % reading_length) 0 && leb 1 (count_of readings) && leb (count_of readings) most_readings
+abbrev pub compasses_fit_in : Layout → ℕ → ℕ → ℕ → ℕ → Bool
+compasses_fit_in l run readings north_noise budget =
+    eqb run l.length && eqb (readings % reading_length) 0 && leb 1 (count_of readings) && leb (count_of readings) most_readings
     && eqb north_noise north_noise_length && leb budget most_readings
+
+-- the same of a filter with an alpha for each sensor
+abbrev pub compasses_fit : ℕ → ℕ → ℕ → ℕ → Bool
+compasses_fit = compasses_fit_in three_alphas
 
 -- how many readings are tried, by the budget and their count alone: the smaller of the two
 unfoldable pub tried : ℕ → ℕ → ℕ
@@ -41,9 +45,9 @@ tried budget count = min budget count
 unfoldable pub direction_numbers : List Float → List Float → ℕ → List Float
 direction_numbers readings north_noise i = part readings (i * reading_length) reading_length ++ north_noise
 
--- reading i, tried: the direction call by it, on the filter's run
-unfoldable pub attempt : List Float → List Float → List Float → ℕ → Outcome
-attempt run readings north_noise i = call Direction run (direction_numbers readings north_noise i) []
+-- reading i, tried: the direction call by it, on the filter's run in a layout
+unfoldable pub attempt_in : Layout → List Float → List Float → List Float → ℕ → Outcome
+attempt_in l run readings north_noise i = call_in l Direction run (direction_numbers readings north_noise i) []
 
 -- the best of some tries: its index, its normalised innovation squared and the filter that it left; `nothing` where none was accepted
 pub data BestTry : Type 0 where
@@ -103,12 +107,16 @@ selected k run nothing = compasses_outcome (None k) run
 selected k run (reading i x left) = compasses_outcome (Chosen i x k) left
 
 -- the update by the best of the first readings, as many as are tried; a refusal leaves the filter's run as it was
-unfoldable pub update_compasses : List Float → List Float → List Float → ℕ → CompassesOutcome
-update_compasses run readings north_noise budget =
+unfoldable pub update_compasses_in : Layout → List Float → List Float → List Float → ℕ → CompassesOutcome
+update_compasses_in l run readings north_noise budget =
     let k = tried budget (count_of (length readings)) in
-    cond (compasses_fit (length run) (length readings) (length north_noise) budget)
-    (cond (all_finite run && all_finite north_noise) (selected k run (best_of (attempt run readings north_noise) k)) (compasses_outcome (Refused blank_refusal) run))
+    cond (compasses_fit_in l (length run) (length readings) (length north_noise) budget)
+    (cond (all_finite run && all_finite north_noise) (selected k run (best_of (attempt_in l run readings north_noise) k)) (compasses_outcome (Refused blank_refusal) run))
     (compasses_outcome (Refused length_refusal) run)
+
+-- the same on a filter with an alpha for each sensor
+abbrev pub update_compasses : List Float → List Float → List Float → ℕ → CompassesOutcome
+update_compasses = update_compasses_in three_alphas
 
 -- the number of an answer: that of a refusal, and 0 where the call is accepted, be it that no reading was
 abbrev pub compasses_number : CompassesAnswer → ℕ

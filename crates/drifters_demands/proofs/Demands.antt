@@ -5,6 +5,7 @@ pub mod Mirrored
 pub mod Choice
 pub mod Compasses
 pub mod Sheets
+pub mod Upgrade
 pub mod First
 pub mod Second
 pub mod Equality

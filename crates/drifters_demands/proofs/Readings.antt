@@ -1,6 +1,7 @@
 -- The starred readings, by computation. Assumes nothing.
 use mathlib.Core.Path.{refl}
 use Rattle.drifters_real.proofs.Reading.{as_stated}
+use Rattle.drifters_upgrade.specs.Upgrade.{alphas_equal}
 use Rattle.drifters_demands.specs.Turn.{turned}
 use Rattle.drifters_real.specs.Real.{smallest_values, whole_root, sqrt_units, sqrt, sum_of, angle, square, term, sinc_plus, sinc_minus, cos_plus, cos_minus, difference, sinc_of_square, cos_of_square, in_range, sin, cos, abs, max, is_finite}
 use Rattle.drifters_matrix.specs.Matrix.{tab, matrix, sum_terms, matmul, mul_transpose, symmetrize}
@@ -12,5 +13,5 @@ use Rattle.drifters_demands.specs.Readings.{readings, Readings}
 use lib.Ieee.{add, sub, mul, div, neg, lt, le, eq, of_bits, to_bits, is_nan}
 
 pub starred_readings : Readings
-unfolding readings turned beta nis dot_vector halvings dot norm_squared norm amax_vec3 mul_vec3 tab matrix sum_terms matmul mul_transpose symmetrize sub_terms factor_entry factor_columns factor_rows cholesky set_row forward back solve smallest_values whole_root sqrt_units sqrt sum_of angle square term sinc_plus sinc_minus cos_plus cos_minus difference sinc_of_square cos_of_square in_range sin cos abs max is_finite add sub mul div neg lt le eq of_bits to_bits is_nan
+unfolding readings turned alphas_equal beta nis dot_vector halvings dot norm_squared norm amax_vec3 mul_vec3 tab matrix sum_terms matmul mul_transpose symmetrize sub_terms factor_entry factor_columns factor_rows cholesky set_row forward back solve smallest_values whole_root sqrt_units sqrt sum_of angle square term sinc_plus sinc_minus cos_plus cos_minus difference sinc_of_square cos_of_square in_range sin cos abs max is_finite add sub mul div neg lt le eq of_bits to_bits is_nan
 starred_readings u v w = as_stated (readings u v w) refl

@@ -1,7 +1,7 @@
 -- The three demands, each a named statement. The proofs are in proofs/Demands/. Definitions and statements only.
--- They are about the definitions `call`, `update_compasses`, `start` and `read_into`, and of the code the contracts say it: the outcome of `filter_call` of
+-- They are about the definitions `call`, `update_compasses`, `start`, `upgrade`, `downgrade` and `read_into`, and of the code the contracts say it: the outcome of `filter_call` of
 -- drifters_entry is `call` at its kind, that of `nav_state` is `call` at State, that of `start` is `start`; that of `update_compasses` of
--- drifters_compasses is `update_compasses`; `read_sheet` and `run_sheet` of call_sheet leave what `read_into` and `sheet_text` say; square root, sine and
+-- drifters_compasses is `update_compasses`; those of `upgrade` and `downgrade` of drifters_upgrade are `upgrade` and `downgrade`; `read_sheet` and `run_sheet` of call_sheet leave what `read_into` and `sheet_text` say; square root, sine and
 -- cosine are those of drifters_real.
 use Rattle.std.specs.Prelude.{ℕ, ◌+◌, ◌*◌, ◌<◌, ◌≡◌, ◌↔◌, Bool, true, false, not, ◌&&◌, ◌||◌, cond, eqb, length, get_or, Float, Some, Err}
 use mathlib.Core.List.{List, [], ◌∷◌, ◌++◌, map, Forall₂}
@@ -13,16 +13,17 @@ use Rattle.drifters_matrix.specs.Matrix.{all_finite}
 use Rattle.drifters_core.specs.Vec3.{norm}
 use Rattle.drifters_core.specs.declared.math.vec3.Vec3.{Vec3}
 use Rattle.drifters_lie.specs.Lie.{vec3_at}
-use Rattle.drifters_eqf.specs.Answer.{Answer, Nis, Fine, Refused, length_refusal, blank_refusal, turn_refusal, pivot_refusal, range_refusal, sheet_refusal, null_refusal, number_of, values_of}
+use Rattle.drifters_eqf.specs.Answer.{Answer, Nis, Fine, Refused, length_refusal, blank_refusal, turn_refusal, pivot_refusal, range_refusal, sheet_refusal, null_refusal, unequal_refusal, number_of, values_of}
 use Rattle.drifters_cholesky.specs.Cholesky.{definite, entries_of}
 use Rattle.drifters_gcu.specs.Gcu.{nis}
 use Rattle.drifters_eqf.specs.Filter.{turn_fits, nav_state, half_step, full_step, propagated, raw_factor, inflated_factor, gain, correction, step, corrected}
 use Rattle.drifters_eqf.specs.declared.filter.EqFilter.{EqFilter}
-use Rattle.drifters_entry.specs.Layout.{filter_length, start_length, sigma_place, part, from_run, to_run, state_to_run}
+use Rattle.drifters_entry.specs.Layout.{filter_length, one_alpha_length, start_length, sigma_place, part, alphas_of, from_run, to_run, state_to_run}
 use Rattle.drifters_kind.specs.Kind.{form_of, written_length}
 use Rattle.drifters_entry.specs.Entry.{Request, refusal, propagation, measurement, estimate, request_of, Outcome, refused, lengths_fit, call, started, start}
 use Rattle.drifters_compasses.specs.Compasses.{reading_length, count_of, compasses_fit, tried, CompassesAnswer, CompassesOutcome, update_compasses, compasses_number, TriedBounds}
 use Rattle.drifters_compasses.specs.Compasses as compasses
+use Rattle.drifters_upgrade.specs.Upgrade.{upgraded, downgraded, alphas_equal, upgrade, downgrade}
 use Rattle.drifters_kind.specs.declared.kind.Kind.{Kind}
 use Rattle.drifters_kind.specs.declared.kind.Kind.TheVariants.{Propagate, Position, Velocity, Direction, General, State, Scalar}
 use Rattle.call_sheet.specs.Sheet.{SheetCall, Sheet, Runs, read_sheet, is_some, refusal_of, runs_fit, in_runs, read_into}
@@ -62,24 +63,24 @@ has_null General v = false
 has_null State v = false
 has_null Scalar v = false
 
--- the checks of what is asked of a filter, after length, blank and null; what a kind refuses by a check of its own is null
-abbrev pub later_checks : Request → EqFilter → List Check
-later_checks (refusal n) f = []
-later_checks (propagation u dt q) f =
+-- the checks of what is asked of the filter f with its run, after length, blank and null; what a kind refuses by a check of its own is null
+abbrev pub later_checks : Request → EqFilter → List Float → List Check
+later_checks (refusal n) f run = []
+later_checks (propagation u dt q) f run =
     unless turn_refusal (turn_fits (half_step f u dt))
     ∷ unless turn_refusal (turn_fits (full_step f u dt))
-    ∷ unless range_refusal (all_finite (to_run (propagated f u dt q)))
+    ∷ unless range_refusal (all_finite (to_run (propagated f u dt q) (alphas_of run)))
     ∷ []
-later_checks (measurement w m noise alpha) f =
+later_checks (measurement w m noise alpha) f run =
     let c = m.output in
     let y = m.innovation in
     let u = correction w (gain w f c y noise alpha) c y noise in
     unless pivot_refusal (definite (raw_factor w f c noise))
     ∷ unless pivot_refusal (definite (inflated_factor w f c y noise alpha))
     ∷ unless turn_refusal (turn_fits (step u))
-    ∷ unless range_refusal (is_finite (nis w (entries_of w (raw_factor w f c noise)) y) && all_finite (to_run (corrected f u)))
+    ∷ unless range_refusal (is_finite (nis w (entries_of w (raw_factor w f c noise)) y) && all_finite (to_run (corrected f u) (alphas_of run)))
     ∷ []
-later_checks estimate f = unless range_refusal (all_finite (state_to_run (nav_state f))) ∷ []
+later_checks estimate f run = unless range_refusal (all_finite (state_to_run (nav_state f))) ∷ []
 
 -- the checks of a call, in the manual's order (docs/MANUAL.md, 'Refusals')
 abbrev pub checks : Kind → List Float → List Float → List Float → List Check
@@ -87,7 +88,7 @@ checks kind run v written =
     unless length_refusal (lengths_fit (form_of kind) run v (length written))
     ∷ unless blank_refusal (all_finite run && all_finite v)
     ∷ unless null_refusal (not (has_null kind v))
-    ∷ later_checks (request_of kind (from_run run) v) (from_run run)
+    ∷ later_checks (request_of kind run v) (from_run run) run
 
 -- the checks of a start
 abbrev pub start_checks : List Float → List Float → List Check
@@ -95,6 +96,19 @@ start_checks run v =
     unless length_refusal (eqb (length run) filter_length && eqb (length v) start_length)
     ∷ unless blank_refusal (all_finite v)
     ∷ unless range_refusal (all_finite (started v))
+    ∷ []
+
+-- the checks of changing a filter with one alpha over, into a run for a filter
+abbrev pub upgrade_checks : List Float → List Float → List Check
+upgrade_checks run written =
+    unless length_refusal (eqb (length run) one_alpha_length && eqb (length written) filter_length) ∷ unless blank_refusal (all_finite run) ∷ []
+
+-- the checks of the way back, into a run for a filter with one alpha
+abbrev pub downgrade_checks : List Float → List Float → List Check
+downgrade_checks run written =
+    unless length_refusal (eqb (length run) filter_length && eqb (length written) one_alpha_length)
+    ∷ unless blank_refusal (all_finite run)
+    ∷ unless unequal_refusal (alphas_equal run)
     ∷ []
 
 -- a filter's run whose numbers are finite and whose covariance mirrors
@@ -145,8 +159,8 @@ pub record NullCall (kind : Kind) (run v written : List Float) : Type 0 where
   pub finite : all_finite run && all_finite v ≡ true
   pub null : has_null kind v ≡ true
 
--- Every call of a kind, every update by several compasses, every start and every sheet is so checked; a call is refused as null exactly where it is such
--- a call; and an accepted propagation or update of a kind leaves a covariance that mirrors bit for bit.
+-- Every call of a kind, every update by several compasses, every start, every change-over and way back and every sheet is so checked; a call is refused
+-- as null exactly where it is such a call; and an accepted propagation or update of a kind leaves a covariance that mirrors bit for bit.
 pub record Demand1 : Type 0 where
   pub calls : (kind : Kind) (run v written : List Float) → Checked (checks kind run v written) run written (call kind run v written)
   pub null : (kind : Kind) (run v written : List Float) → (call kind run v written).answer ≡ Refused null_refusal ↔ NullCall kind run v written
@@ -154,6 +168,8 @@ pub record Demand1 : Type 0 where
       (run readings north_noise : List Float) (budget : ℕ)
       → CheckedCompasses (compasses_checks run readings north_noise budget) run (update_compasses run readings north_noise budget)
   pub starts : (run v : List Float) → Checked (start_checks run v) run [] (start run v)
+  pub upgrades : (run written : List Float) → Checked (upgrade_checks run written) run written (upgrade run written)
+  pub downgrades : (run written : List Float) → Checked (downgrade_checks run written) run written (downgrade run written)
   pub sheets : (s filter : List ℕ) (kinds : List Kind) (numbers : List ℕ) → CheckedSheet s filter kinds numbers (read_into s filter kinds numbers)
   pub mirrored :
       (kind : Kind) (run v written : List Float) → (kind ≡ State → ⊥) → first_of (checks kind run v written) ≡ 0
@@ -165,13 +181,13 @@ pub record Demand1 : Type 0 where
 -- as it was; a refusal of its own is never accepted
 abbrev pub accepted_outcome : Request → EqFilter → List Float → List Float → Outcome
 accepted_outcome (refusal n) f run written = refused n run written
-accepted_outcome (propagation u dt q) f run written = record { answer = Fine; run = to_run (propagated f u dt q); written = written }
+accepted_outcome (propagation u dt q) f run written = record { answer = Fine; run = to_run (propagated f u dt q) (alphas_of run); written = written }
 accepted_outcome (measurement w m noise alpha) f run written =
     let c = m.output in
     let y = m.innovation in
     record {
       answer = Nis (nis w (entries_of w (raw_factor w f c noise)) y);
-      run = to_run (corrected f (correction w (gain w f c y noise alpha) c y noise));
+      run = to_run (corrected f (correction w (gain w f c y noise alpha) c y noise)) (alphas_of run);
       written = written;
     }
 accepted_outcome estimate f run written = record { answer = Fine; run = run; written = state_to_run (nav_state f) }
@@ -204,17 +220,20 @@ pub data LinesOf : ℕ → List LogEntry → List ℕ → Type 0 where
   one_line : {i : ℕ} {kind : Kind} {v written left : List Float} {a : Answer} {es : List LogEntry} {text : List ℕ} → LinesOf (i + 1) es text
       → LinesOf i (record { called = kind_call kind v; answer = kind_answer a written; left = left } ∷ es) (line_text i kind a ++ text)
 
--- An accepted call of a kind comes to what it asks for, and so does a start; an update by several compasses tries its first readings and chooses among
+-- An accepted call of a kind comes to what it asks for, and so do a start, a change-over and the way back; an update by several compasses tries its first readings and chooses among
 -- these, and how many keeps to its bounds; a sheet prints the lines of its log; the square root is the nearest f64; sine and cosine keep their bounds.
 pub record Demand2 : Type 0 where
   pub calls :
       (kind : Kind) (run v written : List Float) → first_of (checks kind run v written) ≡ 0
-      → call kind run v written ≡ accepted_outcome (request_of kind (from_run run) v) (from_run run) run written
+      → call kind run v written ≡ accepted_outcome (request_of kind run v) (from_run run) run written
   pub compasses :
       (run readings north_noise : List Float) (budget : ℕ) → first_of (compasses_checks run readings north_noise budget) ≡ 0
       → Chooses (tried budget (count_of (length readings))) (direction_try run readings north_noise) (update_compasses run readings north_noise budget)
   pub tries : TriedBounds
   pub starts : (run v : List Float) → first_of (start_checks run v) ≡ 0 → start run v ≡ record { answer = Fine; run = started v; written = [] }
+  pub upgrades : (run written : List Float) → first_of (upgrade_checks run written) ≡ 0 → upgrade run written ≡ record { answer = Fine; run = run; written = upgraded run }
+  pub downgrades :
+      (run written : List Float) → first_of (downgrade_checks run written) ≡ 0 → downgrade run written ≡ record { answer = Fine; run = run; written = downgraded run }
   pub sheets :
       (s : List ℕ) (sheet : Sheet) → read_sheet s ≡ Some sheet
       → LinesOf 1 (log_of (numbers_of sheet.filter) (map call_of sheet.calls)).entries (sheet_text s)

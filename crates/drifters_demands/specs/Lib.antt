@@ -3,4 +3,5 @@ pub mod Log
 pub mod Like
 pub mod Turn
 pub mod Demands
+pub mod ChangeOver
 pub mod Readings

@@ -1,5 +1,5 @@
 -- The starred readings, of the definitions at known numbers: one table, and one theorem. The proof is in proofs/Readings.antt. Definitions and statements only.
-use Rattle.std.specs.Prelude.{ℕ, Bool, false, cond, List, [], ◌∷◌, ◌++◌, map, replicate, Float}
+use Rattle.std.specs.Prelude.{ℕ, Bool, false, cond, List, [], ◌∷◌, ◌++◌, map, replicate, drop, Float}
 use Rattle.std.specs.Float.{nan, inf, binary64}
 use Rattle.std.specs.Float.Ieee.{of_bits, to_bits}
 use Rattle.drifters_real.specs.Reading.{Reading, reads, AsStated}
@@ -11,11 +11,13 @@ use Rattle.drifters_cholesky.specs.Cholesky.{Factor, none, lower, cholesky}
 use Rattle.drifters_lie.specs.Lie.{se3_tangent}
 use Rattle.drifters_adjoint.specs.Adjoint.{most_halvings, halvings}
 use Rattle.drifters_gcu.specs.Gcu.{beta, nis}
+use Rattle.drifters_entry.specs.Layout.{gravity_place, alpha_place}
+use Rattle.drifters_upgrade.specs.Upgrade.{alphas_equal}
 use Rattle.drifters_kind.specs.declared.kind.Kind.{Kind}
 use Rattle.drifters_kind.specs.declared.kind.Kind.TheVariants.{Position, State, Scalar}
 use Rattle.drifters_compasses.specs.Compasses.{count_of, compasses_fit}
 use Rattle.drifters_demands.specs.Like.{signed, Signs, about_x, about_y, about_z, axis}
-use Rattle.drifters_demands.specs.Turn.{turn_numbers, turn_north_noise}
+use Rattle.drifters_demands.specs.Turn.{filter_signs, turned, turn_numbers, turn_north_noise}
 
 -- the number of a pattern
 abbrev pub float : ℕ → Float
@@ -60,6 +62,10 @@ tests_are tests stated = reads (map (λ b. cond b 1 0) tests) stated
 abbrev pub norm_of : ℕ → Float
 norm_of n = norm (splat (float n))
 
+-- whether the alphas of a filter have equal bits
+abbrev pub equal_alphas : Float → Float → Float → Bool
+equal_alphas a b c = alphas_equal (replicate alpha_place plus_zero ++ a ∷ b ∷ c ∷ [])
+
 -- the table; u, v and w, above a diagonal, may hold anything
 unfoldable pub readings : Float → Float → Float → List Reading
 readings u v w =
@@ -101,10 +107,13 @@ readings u v w =
     ∷ numbers_are (turned_about_x Scalar (replicate 23 one)) (axes ++ axes ++ axes ++ axes ++ axes ++ axes ++ axes ++ one ∷ one ∷ [])
     -- of several compasses: how many readings a run has; lengths and budgets that fit, and those that do not; north and noise, and a number past them
     ∷ reads (count_of 3 ∷ count_of 24 ∷ []) (1 ∷ 8 ∷ [])
-    ∷ tests_are (compasses_fit 478 3 12 0 ∷ compasses_fit 478 24 12 8 ∷ []) (1 ∷ 1 ∷ [])
-    ∷ tests_are (compasses_fit 478 0 12 0 ∷ compasses_fit 478 4 12 0 ∷ compasses_fit 478 27 12 0 ∷ compasses_fit 478 3 12 9 ∷ []) (0 ∷ 0 ∷ 0 ∷ 0 ∷ [])
-    ∷ tests_are (compasses_fit 477 3 12 0 ∷ compasses_fit 479 3 12 0 ∷ compasses_fit 478 3 11 0 ∷ compasses_fit 478 3 13 0 ∷ []) (0 ∷ 0 ∷ 0 ∷ 0 ∷ [])
+    ∷ tests_are (compasses_fit 480 3 12 0 ∷ compasses_fit 480 24 12 8 ∷ []) (1 ∷ 1 ∷ [])
+    ∷ tests_are (compasses_fit 480 0 12 0 ∷ compasses_fit 480 4 12 0 ∷ compasses_fit 480 27 12 0 ∷ compasses_fit 480 3 12 9 ∷ []) (0 ∷ 0 ∷ 0 ∷ 0 ∷ [])
+    ∷ tests_are (compasses_fit 478 3 12 0 ∷ compasses_fit 479 3 12 0 ∷ compasses_fit 481 3 12 0 ∷ compasses_fit 480 3 11 0 ∷ compasses_fit 480 3 13 0 ∷ []) (0 ∷ 0 ∷ 0 ∷ 0 ∷ 0 ∷ [])
     ∷ numbers_are (turn_north_noise about_x (replicate 13 one)) (axes ++ one ∷ minus_one ∷ minus_one ∷ minus_one ∷ one ∷ one ∷ minus_one ∷ one ∷ one ∷ one ∷ [])
+    -- the end of a filter: gravity turns, the three alphas do not; alphas that are equal, and those that are not, +0 and -0 among them
+    ∷ numbers_are (drop gravity_place (turned (filter_signs about_x) (replicate 480 one))) (axes ++ one ∷ one ∷ one ∷ [])
+    ∷ tests_are (equal_alphas zero zero zero ∷ equal_alphas one two one ∷ equal_alphas one one two ∷ equal_alphas zero (float 0x8000_0000_0000_0000) zero ∷ []) (1 ∷ 0 ∷ 0 ∷ 0 ∷ [])
     -- a norm: 0 by underflow, at the largest number whose square is 0; above 0 at the next number; infinite at 1e200
     ∷ numbers_are (norm_of 0x1e56_a09e_667f_3bcc ∷ norm_of 0x1e56_a09e_667f_3bcd ∷ norm_of 0x6974_e718_d7d7_625a ∷ []) (zero ∷ float 0x1e6b_b67a_e858_4caa ∷ inf false ∷ [])
     ∷ []

@@ -18,9 +18,9 @@ use Rattle.drifters_eqf.specs.Filter.{Answered, refuse}
 use Rattle.drifters_eqf.specs.declared.filter.EqFilter.{EqFilter}
 use Rattle.drifters_eqf.specs.declared.answer.Refusal.{Refusal}
 use Rattle.drifters_eqf.specs.declared.answer.Refusal.TheVariants.{Length, Blank}
-use Rattle.drifters_entry.specs.Layout.{filter_length, from_run}
+use Rattle.drifters_entry.specs.Layout.{filter_length, three_alphas, from_run}
 use Rattle.drifters_kind.specs.Kind.{form_of, call_length, written_length}
-use Rattle.drifters_entry.specs.Entry.{Request, request_of, Outcome, outcome, outcome_of, performed, refused, range_checked, lengths_fit, call}
+use Rattle.drifters_entry.specs.Entry.{Request, request_of, Outcome, outcome, outcome_of, performed, refused, range_checked, lengths_fit, call_in, call}
 use Rattle.drifters_entry.specs.Asked.{first_refusal}
 use Rattle.drifters_kind.specs.declared.kind.Kind.{Kind}
 use Rattle.drifters_entry.proofs.Parts.{all_finite_one}
@@ -60,7 +60,7 @@ pub record Passed (kind : Kind) (run v written : List Float) : Type 0 where
 module _ (kind : Kind) (run v written : List Float) where
   -- the filter's run is of another length
   pub run_refused : (length run ≡ filter_length → ⊥) → refused length_refusal run written ≡ call kind run v written
-  unfolding call
+  unfolding call_in
   run_refused h = rw (ne_eqb _ _ h)
 
   -- r is what `first_refusal` gives
@@ -78,21 +78,21 @@ module _ (kind : Kind) (run v written : List Float) where
         }
 
     pub call_refused : {x : Refusal} → r ≡ Err x → refused (refusal_number x) run written ≡ call kind run v written
-    unfolding call
+    unfolding call_in
     call_refused z = some_refused (lengths_fit (form_of kind) run v (length written)) (all_finite run && all_finite v) run written _ (sym e ∙ z)
 
 -- ---- a call that is begun
 
 pub call_passed : (kind : Kind) (run v written : List Float) {o : Outcome} → Passed kind run v written
-    → o ≡ range_checked (performed (request_of kind (from_run run) v) (from_run run) run written) run written → o ≡ call kind run v written
-unfolding call
+    → o ≡ range_checked (performed (request_of kind run v) (from_run run) run written) run written → o ≡ call kind run v written
+unfolding call_in
 call_passed kind run v written p e = rw (eq-eqb _ _ p.run_length, eq-eqb _ _ p.v_length, eq-eqb _ _ p.written_length_lem, p.finite) e
 
 -- a call that asks for q
-module _ (kind : Kind) (run v : List Float) {written : List Float} (q : Request) (asked : q ≡ request_of kind (from_run run) v) (p : Passed kind run v written) where
+module _ (kind : Kind) (run v : List Float) {written : List Float} (q : Request) (asked : q ≡ request_of kind run v) (p : Passed kind run v written) where
   -- how many numbers it writes beside the filter
   pub asked_length : length written ≡ written_by q
-  asked_length = p.written_length_lem ∙ (kind_laws kind).writes (from_run run) v ∙ ap written_by (sym asked)
+  asked_length = p.written_length_lem ∙ (kind_laws kind).writes three_alphas run v ∙ ap written_by (sym asked)
 
   pub call_asked : {o : Outcome} → o ≡ range_checked (performed q (from_run run) run written) run written → o ≡ call kind run v written
   call_asked e = call_passed kind run v written p (rw (← asked) e)
@@ -110,11 +110,11 @@ nis_finite (Some x) = is_finite x
 nis_finite None = true
 
 -- what is given out of an answer with the filter beside it, where it is another's
-pub given : (run : List Float) {a b : Answered} → a ≡ b → range_checked (outcome_of a []) run [] ≡ range_checked (outcome_of b []) run []
-given run e = ap (λ (x : Answered). range_checked (outcome_of x []) run []) e
+pub given : (run : List Float) {a b : Answered} → a ≡ b → range_checked (outcome_of a run []) run [] ≡ range_checked (outcome_of b run []) run []
+given run e = ap (λ (x : Answered). range_checked (outcome_of x run []) run []) e
 
 -- where it is a refusal
-pub given_refused : (run : List Float) {n : ℕ} {f : EqFilter} {b : Answered} → refuse n f ≡ b → refused n run [] ≡ range_checked (outcome_of b []) run []
+pub given_refused : (run : List Float) {n : ℕ} {f : EqFilter} {b : Answered} → refuse n f ≡ b → refused n run [] ≡ range_checked (outcome_of b run []) run []
 unfolding range_checked
 given_refused run e = given run e
 

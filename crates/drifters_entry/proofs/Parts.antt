@@ -2,10 +2,10 @@
 use mathlib.Core.Path.{◌≡◌, refl, sym, ap, ◌∙◌}
 use mathlib.Core.Bool.{◌&&◌, and_assoc, and-true}
 use mathlib.Core.List.{List, [], ◌∷◌, ◌++◌, append_assoc}
-use Prim.Native.Nat.{ℕ, suc, ◌+◌, ◌≤◌}
+use Prim.Native.Nat.{ℕ, ◌+◌, ◌≤◌}
 use native.Mathlib.Omega.{arith}
-use lib.ListN.{length, take, drop, set, length-append, length-take, length-drop, drop_of_length-le}
-use lib.Seq.{take_all, take_at, set_split}
+use lib.ListN.{length, take, drop, length-append, length-take, length-drop}
+use lib.Seq.{take_all, take_at}
 use lib.Ieee.{Float}
 use borrow.Rule.Slice.PartMut.{put_mid}
 use Rattle.drifters_real.specs.Real.{is_finite}
@@ -38,11 +38,6 @@ begins_next {m} {i} {p} {run} {q} {v} n b e s h =
 -- all numbers are stored
 pub begins_all : {m : ℕ} {p run : List Float} → Begins m m p run → run ≡ p
 begins_all {m} {p} {run} b = sym (take_all m run (omega arith)) ∙ b.first
-
--- all but the last, which is stored by itself
-pub begins_last : {n : ℕ} {p run : List Float} (x : Float) → Begins (n + 1) n p run → set run n x ≡ p ++ (x ∷ [])
-begins_last {n} {p} {run} x b =
-    set_split run n x (omega arith) ∙ (λ k. b.first k ++ (x ∷ drop_of_length-le run {i = suc n} (omega arith) k))
 
 -- ---- finiteness
 

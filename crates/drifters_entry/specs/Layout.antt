@@ -1,6 +1,5 @@
--- The filter and the state as runs of numbers, both ways, with the round trips. Definitions and statements only.
-use Rattle.std.specs.Prelude.{ℕ, ◌+◌, ◌≡◌, List, [], ◌∷◌, ◌++◌, length, get_or, take, drop, Float}
-use Rattle.std.specs.Float.{nan}
+-- The filter and the state as runs of numbers, both ways, with the round trips, and where the alphas stand. Definitions and statements only.
+use Rattle.std.specs.Prelude.{ℕ, ◌+◌, ◌≡◌, ◌≤◌, List, ◌++◌, length, take, drop, Float}
 use Rattle.drifters_core.specs.Vec3.{to_array}
 use Rattle.drifters_matrix.specs.Shapes.{Mat3}
 use Rattle.drifters_lie.specs.Lie.{mat3_of, to_array_se3, vec3_at, se3_tangent_at}
@@ -37,13 +36,32 @@ sigma_place = e_place + 9
 abbrev pub gravity_place : ℕ
 gravity_place = sigma_place + 441
 
--- where alpha stands
+-- where the alphas begin, after the numbers of `EqFilter`: each is the share of inflation along the innovation for a sensor
 abbrev pub alpha_place : ℕ
 alpha_place = gravity_place + 3
 
 -- how many numbers a filter has
 abbrev pub filter_length : ℕ
-filter_length = alpha_place + 1
+filter_length = alpha_place + 3
+
+-- how many numbers a filter with one alpha has
+abbrev pub one_alpha_length : ℕ
+one_alpha_length = alpha_place + 1
+
+-- how the run of a filter ends: how many numbers it has, and where the alphas for position, velocity and direction stand
+pub record Layout : Type 0 where
+  pub length : ℕ
+  pub position : ℕ
+  pub velocity : ℕ
+  pub direction : ℕ
+
+-- an alpha for each sensor
+abbrev pub three_alphas : Layout
+three_alphas = record { length = filter_length; position = alpha_place; velocity = alpha_place + 1; direction = alpha_place + 2 }
+
+-- one alpha for all: the layout before there were three
+abbrev pub one_alpha : Layout
+one_alpha = record { length = one_alpha_length; position = alpha_place; velocity = alpha_place; direction = alpha_place }
 
 -- where the biases begin in a state, after its pose
 abbrev pub bias_place : ℕ
@@ -77,20 +95,22 @@ pose_of v = record { rotation = mat3_at v 0; velocity = vec3_at v velocity_place
 abbrev pub pose_numbers : Se23 → List Float
 pose_numbers c = c.rotation.«data» ++ to_array c.velocity ++ to_array c.position
 
+-- the alphas of a run, one after the other
+abbrev pub alphas_of : List Float → List Float
+alphas_of run = drop alpha_place run
+
 -- a filter from its run
 unfoldable pub from_run : List Float → EqFilter
 from_run run = record {
   x = record { c = pose_of run; gamma = se3_tangent_at run gamma_place; delta = vec3_at run delta_place; e = mat3_at run e_place };
   sigma = record { «data» = part run sigma_place 441 };
   gravity = vec3_at run gravity_place;
-  alpha = get_or run alpha_place nan;
 }
 
--- and back
-unfoldable pub to_run : EqFilter → List Float
-to_run f =
-    pose_numbers f.x.c ++ to_array_se3 f.x.gamma ++ to_array f.x.delta ++ f.x.e.«data» ++ f.sigma.«data» ++ to_array f.gravity
-    ++ (f.alpha ∷ [])
+-- and back, with the alphas after it
+unfoldable pub to_run : EqFilter → List Float → List Float
+to_run f alphas =
+    pose_numbers f.x.c ++ to_array_se3 f.x.gamma ++ to_array f.x.delta ++ f.x.e.«data» ++ f.sigma.«data» ++ to_array f.gravity ++ alphas
 
 -- a state from its run: pose, bias, lever arm, magnetometer calibration
 unfoldable pub state_from_run : List Float → State
@@ -113,7 +133,7 @@ pub record SizedState (xi : State) : Type 0 where
 
 -- from a run to a record and back, and from a record to a run and back, nothing is lost
 pub record RoundTrips : Type 0 where
-  pub filter_run : (run : List Float) → length run ≡ filter_length → to_run (from_run run) ≡ run
-  pub filter_record : (f : EqFilter) → SizedFilter f → from_run (to_run f) ≡ f
+  pub filter_run : (run : List Float) → alpha_place ≤ length run → to_run (from_run run) (alphas_of run) ≡ run
+  pub filter_record : (f : EqFilter) (alphas : List Float) → SizedFilter f → from_run (to_run f alphas) ≡ f
   pub state_run : (run : List Float) → length run ≡ state_length → state_to_run (state_from_run run) ≡ run
   pub state_record : (xi : State) → SizedState xi → state_from_run (state_to_run xi) ≡ xi

@@ -9,8 +9,9 @@ ghost use Rattle.drifters_entry.specs.Entry.{propagation, measurement, estimate,
 ghost use Rattle.drifters_kind.specs.declared.kind.Kind.TheVariants.{State};
 
 use crate::layout::{
-    ALPHA, GRAVITY, SIGMA, filter_is_finite, from_run, matrix_at, state_from_run, state_numbers,
-    symmetry_from_run, to_run, vec3_at,
+    ALPHAS, DIRECTION_ALPHA, GRAVITY, POSITION_ALPHA, SIGMA, VELOCITY_ALPHA, alphas_of,
+    filter_is_finite, from_run, matrix_at, state_from_run, state_numbers, symmetry_from_run,
+    to_run, vec3_at,
 };
 use drifters_core::math::vec3::Vec3;
 use drifters_covariance::covariance::ProcessNoise;
@@ -26,19 +27,22 @@ use drifters_symmetry::group::act_state;
 use drifters_symmetry::lift::Input;
 
 // How many numbers a filter has.
-pub const FILTER_LENGTH: usize = ALPHA + 1;
+pub const FILTER_LENGTH: usize = POSITION_ALPHA + ALPHAS;
 
 // How many numbers a start takes: a state, a covariance, gravity.
-pub const START_LENGTH: usize = ALPHA;
+pub const START_LENGTH: usize = GRAVITY + 3;
+
+// Each alpha of a filter that is started, as in the original.
+const START_ALPHA: f64 = 0.5;
 
 // What a call asks of a filter: a propagation by an input over a time, with its noise; an update by one measured number, as its output row,
-// innovation and variance, or by three with their noise; or the estimate. It is an enum, and `call` a `match` of it, so that one line makes the update
+// innovation and variance, or by three with their noise, each with the alpha for it; or the estimate. It is an enum, and `call` a `match` of it, so that one line makes the update
 // by three numbers for four kinds: it stands once in the compiled code.
 #[derive(Clone, Copy)]
 pub enum Asked {
     Propagate(Input, f64, ProcessNoise),
-    Update1(Mat1x21, Mat1, Mat1),
-    Update3(Measurement3, Mat3),
+    Update1(Mat1x21, Mat1, Mat1, f64),
+    Update3(Measurement3, Mat3, f64),
     Estimate,
 }
 
@@ -52,9 +56,17 @@ pub fn call(kind: Kind, run: &mut [f64], numbers: &[f64], written: &mut [f64]) -
     let asked = asked_by(kind, filter, numbers)?;
     match asked {
         Asked::Propagate(u, dt, q) => propagate_by(u, dt, q, filter),
-        Asked::Update1(c, innovation, variance) => update_by(&c, &innovation, &variance, filter),
-        Asked::Update3(m, noise) => {
-            update_by(&m.output, &Vector3::from(m.innovation), &noise, filter)
+        Asked::Update1(c, innovation, variance, alpha) => {
+            update_by(&c, &innovation, &variance, alpha, filter)
+        }
+        Asked::Update3(m, noise, alpha) => {
+            update_by(
+                &m.output,
+                &Vector3::from(m.innovation),
+                &noise,
+                alpha,
+                filter,
+            )
         }
         Asked::Estimate => write_estimate(filter, written),
     }
@@ -93,7 +105,7 @@ pub fn start(run: &mut [f64], numbers: &[f64]) -> Answer
     let sigma = matrix_at(numbers, SIGMA);
     let gravity = vec3_at(numbers, GRAVITY);
     let filter = EqFilter::new(initial, sigma, gravity);
-    write_filter(None, &filter, run)
+    write_filter(None, &filter, [START_ALPHA; ALPHAS], run)
 }
 
 // Whether a call of a form is refused before it is begun, by length or blank. `written` is how many numbers its run to be written has.
@@ -117,7 +129,7 @@ fn first_refusal(
 // What a call's numbers ask of the filter; refused as null where a direction's vectors have no direction.
 fn asked_by(kind: Kind, run: &[f64; FILTER_LENGTH], numbers: &[f64]) -> Result<Asked, Refusal>
     requires { length numbers.now ≡ call_length kind }
-    ensures { request_by result (from_run run.now) ≡ request_of kind (from_run run.now) numbers.now }
+    ensures { request_by result ≡ request_of kind run.now numbers.now }
 {
     match kind {
         Kind::Propagate => {
@@ -129,13 +141,15 @@ fn asked_by(kind: Kind, run: &[f64; FILTER_LENGTH], numbers: &[f64]) -> Result<A
         }
         Kind::Position => {
             let measurement = measured_position(symmetry_from_run(run), vec3_at(numbers, 0));
-            Ok(Asked::Update3(measurement, matrix_at(numbers, 3)))
+            let noise = matrix_at(numbers, 3);
+            Ok(Asked::Update3(measurement, noise, run[POSITION_ALPHA]))
         }
         Kind::Velocity => {
             let antenna = vec3_at(numbers, 0);
             let omega = vec3_at(numbers, 3);
             let measurement = measured_velocity(symmetry_from_run(run), antenna, omega);
-            Ok(Asked::Update3(measurement, matrix_at(numbers, 6)))
+            let noise = matrix_at(numbers, 6);
+            Ok(Asked::Update3(measurement, noise, run[VELOCITY_ALPHA]))
         }
         Kind::Direction => {
             let measured = vec3_at(numbers, 0);
@@ -143,20 +157,23 @@ fn asked_by(kind: Kind, run: &[f64; FILTER_LENGTH], numbers: &[f64]) -> Result<A
             let measurement = measured_direction(symmetry_from_run(run), measured, north).ok_or(
                 Refusal::Null,
             )?;
-            Ok(Asked::Update3(measurement, matrix_at(numbers, 6)))
+            let noise = matrix_at(numbers, 6);
+            Ok(Asked::Update3(measurement, noise, run[DIRECTION_ALPHA]))
         }
         Kind::General => {
             let measurement = Measurement3 {
                 output: matrix_at(numbers, 0),
                 innovation: vec3_at(numbers, 63),
             };
-            Ok(Asked::Update3(measurement, matrix_at(numbers, 66)))
+            let noise = matrix_at(numbers, 66);
+            Ok(Asked::Update3(measurement, noise, run[POSITION_ALPHA]))
         }
         Kind::State => Ok(Asked::Estimate),
         Kind::Scalar => Ok(Asked::Update1(
             matrix_at(numbers, 0),
             matrix_at(numbers, 21),
             matrix_at(numbers, 22),
+            run[POSITION_ALPHA],
         )),
     }
 }
@@ -166,7 +183,7 @@ fn propagate_by(u: Input, dt: f64, q: ProcessNoise, run: &mut [f64; FILTER_LENGT
     ensures { outcome (answer_of result) run.new [] ≡ range_checked (performed (propagation u dt q) (from_run run.old) run.old []) run.old [] }
 {
     let filter = from_run(run).propagate(u, dt, q)?;
-    write_filter(None, &filter, run)
+    write_filter(None, &filter, alphas_of(run), run)
 }
 
 // The update of a filter by W measured numbers with their noise. WW is W * W and WS is W * 21: a const argument cannot be computed.
@@ -174,13 +191,14 @@ fn update_by<const W: usize, const WW: usize, const WS: usize>(
     c: &Matrix<W, 21, WS>,
     innovation: &Vector<W>,
     noise: &Matrix<W, W, WW>,
+    alpha: f64,
     run: &mut [f64; FILTER_LENGTH],
 ) -> Answer
     requires { (WW ≡ W * W) × (WS ≡ W * 21) × (0 < W) }
-    ensures { outcome (answer_of result) run.new [] ≡ range_checked (performed (measurement W (record { output = c.now.data; innovation = innovation.now.data }) noise.now.data (from_run run.old).alpha) (from_run run.old) run.old []) run.old [] }
+    ensures { outcome (answer_of result) run.new [] ≡ range_checked (performed (measurement W (record { output = c.now.data; innovation = innovation.now.data }) noise.now.data alpha) (from_run run.old) run.old []) run.old [] }
 {
-    let updated = from_run(run).update(c, innovation, noise, run[ALPHA])?;
-    write_filter(Some(updated.nis), &updated.filter, run)
+    let updated = from_run(run).update(c, innovation, noise, alpha)?;
+    write_filter(Some(updated.nis), &updated.filter, alphas_of(run), run)
 }
 
 // Eighteen densities from `at` on; no `From`, since ProcessNoise is another crate's. A run and a place, as in layout.rt.
@@ -198,15 +216,20 @@ fn process_noise_at(numbers: &[f64], at: usize) -> ProcessNoise
     }
 }
 
-// The answer as it is given out: refused as range where a result is not finite, else the filter is written. `nis` is that of an update.
-fn write_filter(nis: Option<f64>, filter: &EqFilter, run: &mut [f64; FILTER_LENGTH]) -> Answer
-    ensures { outcome (answer_of result) run.new [] ≡ range_checked (outcome (accepted nis) (to_run filter.now) []) run.old [] }
+// The answer as it is given out: refused as range where a result is not finite, else the filter is written, with the alphas. `nis` is that of an update.
+fn write_filter(
+    nis: Option<f64>,
+    filter: &EqFilter,
+    alphas: [f64; ALPHAS],
+    run: &mut [f64; FILTER_LENGTH],
+) -> Answer
+    ensures { outcome (answer_of result) run.new [] ≡ range_checked (outcome (accepted nis) (to_run filter.now alphas) []) run.old [] }
 {
     let nis_is_finite = nis.is_none_or(is_finite);
-    if !(nis_is_finite & filter_is_finite(filter)) {
+    if !(nis_is_finite & filter_is_finite(filter, alphas)) {
         return Err(Refusal::Range);
     }
-    to_run(filter, run);
+    to_run(filter, alphas, run);
     Ok(nis)
 }
 

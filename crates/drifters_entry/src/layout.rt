@@ -3,7 +3,7 @@
 ghost use Rattle.std.specs.Prelude.{◌≡◌, ◌+◌, ◌≤◌, length};
 ghost use Rattle.drifters_matrix.specs.Matrix.{all_finite};
 ghost use Rattle.drifters_lie.specs.Lie.{vec3_at};
-ghost use Rattle.drifters_entry.specs.Layout.{part, from_run, to_run, state_from_run, state_to_run};
+ghost use Rattle.drifters_entry.specs.Layout.{part, alphas_of, from_run, to_run, state_from_run, state_to_run};
 ghost use Rattle.drifters_kind.specs.Kind.{state_length};
 
 use crate::entry::FILTER_LENGTH;
@@ -12,11 +12,10 @@ use drifters_eqf::filter::EqFilter;
 use drifters_lie::lie::{Se3Tangent, Se23};
 use drifters_matrix::math::matrix::Matrix;
 use drifters_matrix::math::runs::all_finite;
-use drifters_real::math::real::is_finite;
 use drifters_symmetry::group::{State, Symmetry};
 
-// Where the parts of a filter's run begin: C, as rotation, velocity and position; gamma, delta, E; the covariance, gravity, alpha. A state has
-// its biases, lever arm and calibration at the places of gamma, delta and E.
+// Where the parts of a filter's run begin: C, as rotation, velocity and position; gamma, delta, E; the covariance, gravity; the alphas for position,
+// velocity and direction. A state has its biases, lever arm and calibration at the places of gamma, delta and E.
 const VELOCITY: usize = 9;
 
 const POSITION: usize = VELOCITY + 3;
@@ -31,7 +30,14 @@ pub(crate) const SIGMA: usize = E + 9;
 
 pub(crate) const GRAVITY: usize = SIGMA + 441;
 
-pub(crate) const ALPHA: usize = GRAVITY + 3;
+pub const POSITION_ALPHA: usize = GRAVITY + 3;
+
+pub const VELOCITY_ALPHA: usize = POSITION_ALPHA + 1;
+
+pub const DIRECTION_ALPHA: usize = VELOCITY_ALPHA + 1;
+
+// How many alphas a filter has.
+pub const ALPHAS: usize = 3;
 
 // Three numbers from `at` on, as a vector. group.rt of drifters_symmetry has the same for its 21 numbers: a `requires` on a length stays in a crate.
 pub(crate) fn vec3_at(run: &[f64], at: usize) -> Vec3
@@ -86,8 +92,18 @@ pub(crate) fn from_run(run: &[f64; FILTER_LENGTH]) -> EqFilter
         x: symmetry_from_run(run),
         sigma: matrix_at(run, SIGMA),
         gravity: vec3_at(run, GRAVITY),
-        alpha: run[ALPHA],
     }
+}
+
+// The alphas of a run.
+pub(crate) fn alphas_of(run: &[f64; FILTER_LENGTH]) -> [f64; ALPHAS]
+    ensures { result ≡ alphas_of run.now }
+{
+    [
+        run[POSITION_ALPHA],
+        run[VELOCITY_ALPHA],
+        run[DIRECTION_ALPHA],
+    ]
 }
 
 // A group element's parts as a state's: their numbers stand in the same order.
@@ -130,24 +146,24 @@ pub(crate) fn state_numbers(state: State) -> [f64; 33]
     ]
 }
 
-// A filter into its run.
-pub(crate) fn to_run(filter: &EqFilter, run: &mut [f64; FILTER_LENGTH])
-    ensures { run.new ≡ to_run filter.now }
+// A filter into its run, with the alphas after it.
+pub(crate) fn to_run(filter: &EqFilter, alphas: [f64; ALPHAS], run: &mut [f64; FILTER_LENGTH])
+    ensures { run.new ≡ to_run filter.now alphas }
 {
     let numbers = state_numbers(state_of(filter.x));
     run[..SIGMA].copy_from_slice(&numbers);
     run[SIGMA..GRAVITY].copy_from_slice(&filter.sigma.data);
-    run[GRAVITY..ALPHA].copy_from_slice(&filter.gravity.to_array());
-    run[ALPHA] = filter.alpha;
+    run[GRAVITY..POSITION_ALPHA].copy_from_slice(&filter.gravity.to_array());
+    run[POSITION_ALPHA..].copy_from_slice(&alphas);
 }
 
-// Every number of a filter is finite.
-pub(crate) fn filter_is_finite(filter: &EqFilter) -> bool
-    ensures { result ≡ all_finite (to_run filter.now) }
+// Every number of a filter and its alphas is finite.
+pub(crate) fn filter_is_finite(filter: &EqFilter, alphas: [f64; ALPHAS]) -> bool
+    ensures { result ≡ all_finite (to_run filter.now alphas) }
 {
     let numbers = state_numbers(state_of(filter.x));
     all_finite(&numbers)
         & all_finite(&filter.sigma.data)
         & filter.gravity.is_finite()
-        & is_finite(filter.alpha)
+        & all_finite(&alphas)
 }

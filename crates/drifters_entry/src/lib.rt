@@ -2,4 +2,4 @@
 #![tactic(auto)]
 
 pub mod entry;
-mod layout;
+pub mod layout;

@@ -1,7 +1,7 @@
 -- The answers: the numbers of refusals (docs/MANUAL.md), and what each case of the answer stands for. Definitions and a statement only.
 use Rattle.std.specs.Prelude.{◌≡◌, List, [], ◌∷◌, ℕ, Float, Option, Some, None, Result, Ok, Err}
 use Rattle.drifters_eqf.specs.declared.answer.Refusal.{Refusal}
-use Rattle.drifters_eqf.specs.declared.answer.Refusal.TheVariants.{Length, Blank, Turn, Pivot, Range, Sheet, Null}
+use Rattle.drifters_eqf.specs.declared.answer.Refusal.TheVariants.{Length, Blank, Turn, Pivot, Range, Sheet, Null, Unequal}
 
 -- length: a lent run is not of its stated length
 abbrev pub length_refusal : ℕ
@@ -31,6 +31,10 @@ sheet_refusal = 6
 abbrev pub null_refusal : ℕ
 null_refusal = 7
 
+-- unequal: the alphas of a filter that is to have one have not all the same bits
+abbrev pub unequal_refusal : ℕ
+unequal_refusal = 8
+
 -- the number of a refusal
 abbrev pub refusal_number : Refusal → ℕ
 refusal_number Length = length_refusal
@@ -40,6 +44,7 @@ refusal_number Pivot = pivot_refusal
 refusal_number Range = range_refusal
 refusal_number Sheet = sheet_refusal
 refusal_number Null = null_refusal
+refusal_number Unequal = unequal_refusal
 
 -- no two refusals have one number
 abbrev pub RefusalsDiffer : Type 0

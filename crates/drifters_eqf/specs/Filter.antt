@@ -1,4 +1,5 @@
--- Port of filter.rs: the filter's propagation and updates, with their refusals. Definitions only.
+-- Port of filter.rs: the filter's propagation and updates, with their refusals. An update is given its alpha, the share of inflation along the innovation:
+-- the original keeps one in the filter, which propagation and updates only carry along. Definitions only.
 use Rattle.std.specs.Prelude.{ℕ, ◌*◌, Bool, ◌&&◌, cond, List, Float, Option, Some, None, Result, Ok, Err}
 use Rattle.std.specs.Float.{binary64}
 use Rattle.std.specs.Float.Ieee.{le, of_bits}
@@ -52,12 +53,12 @@ answered_update f (Ok u) = record { answer = Nis u.nis; filter = u.filter }
 answered_update f (Err r) = refuse (refusal_number r) f
 
 -- a filter of its parts
-abbrev pub filter_of : Symmetry → List Float → Vec3 → Float → EqFilter
-filter_of x sigma gravity alpha = record { x = x; sigma = record { «data» = sigma }; gravity = gravity; alpha = alpha }
+abbrev pub filter_of : Symmetry → List Float → Vec3 → EqFilter
+filter_of x sigma gravity = record { x = x; sigma = record { «data» = sigma }; gravity = gravity }
 
 -- the filter of an initial state and covariance
 unfoldable pub new : State → List Float → Vec3 → EqFilter
-new initial sigma gravity = filter_of (from_state initial) sigma gravity half
+new initial sigma gravity = filter_of (from_state initial) sigma gravity
 
 -- the estimate
 unfoldable pub nav_state : EqFilter → State
@@ -91,7 +92,6 @@ propagated f u dt q = record {
   x = compose f.x (exp (full_step f u dt));
   sigma = record { «data» = propagated_sigma f u dt q };
   gravity = f.gravity;
-  alpha = f.alpha;
 }
 
 -- propagation over dt; refused where the turn of the half step, or then of the full step, does not fit
@@ -145,7 +145,6 @@ corrected f u = record {
   x = compose (exp (step u)) f.x;
   sigma = record { «data» = symmetrize 21 (reset_sigma (step u) (joseph f.sigma.«data» u.kc u.noise)) };
   gravity = f.gravity;
-  alpha = f.alpha;
 }
 
 -- a correction applied, with the normalised innovation squared r for an answer; refused where its turn does not fit

@@ -19,6 +19,8 @@ pub enum Refusal {
     Sheet = 6,
     // A vector that is to be normalised has norm 0.
     Null = 7,
+    // The alphas of a filter that is to have one have not all the same bits.
+    Unequal = 8,
 }
 
 impl From<Refusal> for u32 {

@@ -25,13 +25,13 @@ use drifters_symmetry::linear::{
 // The largest norm of a rotation vector whose exponential is taken.
 const TURN_LIMIT: f64 = 8.0;
 
-// The equivariant filter: the observer's state, the covariance, gravity, and the share of inflation along the innovation.
+// The equivariant filter: the observer's state, the covariance and gravity. The original's has alpha too, the share of inflation along the innovation;
+// here `update` is given it, since each sensor has its own (drifters_entry).
 #[derive(Clone, Copy)]
 pub struct EqFilter {
     pub x: Symmetry,
     pub sigma: Mat21,
     pub gravity: Vec3,
-    pub alpha: f64,
 }
 
 // A filter after an update, and the normalised innovation squared of it.
@@ -58,7 +58,6 @@ impl EqFilter {
             x: Symmetry::from_state(initial),
             sigma,
             gravity,
-            alpha: 0.5,
         }
     }
 

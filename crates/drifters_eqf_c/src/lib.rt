@@ -6,6 +6,7 @@
 ghost use Rattle.std.specs.Prelude.{◌≡◌, []};
 ghost use Rattle.drifters_real.specs.Real.{sqrt};
 ghost use Rattle.drifters_entry.specs.Entry.{call, start};
+ghost use Rattle.drifters_upgrade.specs.Upgrade.{upgrade, downgrade};
 ghost use Rattle.drifters_kind.specs.declared.kind.Kind.TheVariants.{Propagate, Position, Velocity, Direction, General, State, Scalar};
 ghost use Rattle.drifters_eqf_c.specs.Exports.{code_of, coded, coded_outcome, coded_update, coded_compasses, coded_update_compasses, coded_sin_cos, coded_text, coded_sheet};
 
@@ -15,6 +16,7 @@ use drifters_entry::entry::{filter_call, nav_state, start};
 use drifters_eqf::answer::Refusal;
 use drifters_kind::kind::Kind;
 use drifters_real::math::real::sin_cos;
+use drifters_upgrade::upgrade::{downgrade, upgrade};
 
 // How many numbers each run has that one result is written to.
 const RESULT_LENGTH: usize = 1;
@@ -34,6 +36,22 @@ pub extern "C" fn drifters_start(filter: &mut [f64], numbers: &[f64]) -> u32
     ensures { coded result filter.new [] ≡ coded_outcome (start filter.old numbers.now) }
 {
     code_of(start(filter, numbers))
+}
+
+// A filter with an alpha for each sensor from one with one alpha.
+#[unsafe(no_mangle)]
+pub extern "C" fn drifters_upgrade(one_alpha: &[f64], filter: &mut [f64]) -> u32
+    ensures { coded result one_alpha.now filter.new ≡ coded_outcome (upgrade one_alpha.now filter.old) }
+{
+    code_of(upgrade(one_alpha, filter))
+}
+
+// A filter with one alpha from one whose alphas are equal.
+#[unsafe(no_mangle)]
+pub extern "C" fn drifters_downgrade(filter: &[f64], one_alpha: &mut [f64]) -> u32
+    ensures { coded result filter.now one_alpha.new ≡ coded_outcome (downgrade filter.now one_alpha.old) }
+{
+    code_of(downgrade(filter, one_alpha))
 }
 
 // Propagation: omega 3, accel 3, dt, densities 18.

@@ -4,8 +4,8 @@ use mathlib.Core.Bool.{Bool, true, false, not, ◌&&◌, cond, true≢false}
 use mathlib.Core.List.{List, [], ◌++◌}
 use Prim.Native.Nat.{ℕ, suc, ◌*◌}
 use native.Mathlib.Nat.{suc-ne-zero}
-use lib.ListN.{length}
-use lib.Ieee.{Float}
+use lib.ListN.{length, get_or}
+use lib.Ieee.{Float, nan}
 use Rattle.std.specs.Prelude.{Option, Some, None}
 use Rattle.std.proofs.lemmas.Bool.{and_parts}
 use Rattle.drifters_matrix.specs.Matrix.{all_finite}
@@ -13,10 +13,10 @@ use Rattle.drifters_lie.specs.Lie.{vec3_at}
 use Rattle.drifters_eqf.specs.Answer.{length_refusal, blank_refusal, number_of, Nis}
 use Rattle.drifters_eqf.specs.Filter.{Measurement, measured_direction}
 use Rattle.drifters_eqf.specs.declared.filter.EqFilter.{EqFilter}
-use Rattle.drifters_entry.specs.Layout.{part, from_run}
+use Rattle.drifters_entry.specs.Layout.{three_alphas, part, from_run}
 use Rattle.drifters_entry.specs.Entry.{Outcome, finite_outcome, direction_request, call}
 use Rattle.drifters_kind.specs.declared.kind.Kind.TheVariants.{Direction, State}
-use Rattle.drifters_compasses.specs.Compasses.{reading_length, count_of, compasses_fit, tried, direction_numbers, attempt, BestTry, nothing, reading, best_of, CompassesOutcome, compasses_outcome, selected, update_compasses}
+use Rattle.drifters_compasses.specs.Compasses.{reading_length, count_of, compasses_fit, tried, direction_numbers, attempt_in, BestTry, nothing, reading, best_of, CompassesOutcome, compasses_outcome, selected, update_compasses_in, update_compasses}
 use Rattle.drifters_compasses.specs.Compasses as compasses
 use Rattle.drifters_demands.specs.Demands.{first_of, checks, compasses_checks, FiniteMirrored, CheckedCompasses, Chooses, accepted_outcome, direction_try}
 use Rattle.drifters_demands.proofs.Demands.Decision.{Decision, refuses, accepts, is_refusal, accepted_call, checked, call_decision}
@@ -39,7 +39,7 @@ direction_answer run v = by_decision (call_decision Direction run v [])
     by_decision (refuses n) = passed_over
     by_decision (accepts h e) =
         let f = from_run run in
-        measured_answer (measured_direction f.x (vec3_at v 0) (vec3_at v 3)) (part v 6 9) f.alpha f run h e
+        measured_answer (measured_direction f.x (vec3_at v 0) (vec3_at v 3)) (part v 6 9) (get_or run three_alphas.direction nan) f run h e
 
 not_state : Direction ≡ State → ⊥
 not_state e = cc
@@ -69,7 +69,7 @@ module _ (run readings north_noise : List Float) (budget : ℕ) where
     is_selected : Decided 0 (selected k run (best_of tries k))
 
   decided : Decided (first_of (compasses_checks run readings north_noise budget)) (update_compasses run readings north_noise budget)
-  unfolding first_of update_compasses attempt direction_numbers
+  unfolding first_of update_compasses_in attempt_in direction_numbers
   decided = by_tests (compasses_fit (length run) (length readings) (length north_noise) budget) (all_finite run && all_finite north_noise)
     where
       by_tests : (fit finite : Bool)

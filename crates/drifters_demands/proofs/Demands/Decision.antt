@@ -16,9 +16,9 @@ use Rattle.drifters_eqf.specs.Answer.{Answer, Nis, Fine, Refused, range_refusal,
 use Rattle.drifters_cholesky.specs.Cholesky.{definite, entries_of}
 use Rattle.drifters_gcu.specs.Gcu.{nis}
 use Rattle.drifters_eqf.specs.Filter.{Answered, turn_fits, refuse, nav_state, half_step, full_step, propagated, propagate, raw_factor, inflated_factor, gain, correction, step, corrected, applied, update}
-use Rattle.drifters_entry.specs.Layout.{filter_length, start_length, from_run, to_run, state_to_run}
+use Rattle.drifters_entry.specs.Layout.{filter_length, start_length, three_alphas, alphas_of, from_run, to_run, state_to_run}
 use Rattle.drifters_kind.specs.Kind.{form_of, call_length, written_length}
-use Rattle.drifters_entry.specs.Entry.{Request, refusal, propagation, measurement, estimate, request_of, Outcome, outcome_of, performed, refused, finite_outcome, if_finite, range_checked_as, range_checked, lengths_fit, call, started, start}
+use Rattle.drifters_entry.specs.Entry.{Request, refusal, propagation, measurement, estimate, request_of, Outcome, outcome_of, performed, refused, finite_outcome, if_finite, range_checked_as, range_checked, lengths_fit, call_in, call, started, start}
 use Rattle.drifters_demands.specs.Demands.{Check, unless, first_of, has_null, later_checks, checks, start_checks, Checked, accepted_outcome}
 use Rattle.drifters_eqf.specs.declared.filter.EqFilter.{EqFilter}
 use Rattle.drifters_kind.specs.declared.kind.Kind.{Kind}
@@ -83,7 +83,7 @@ module _ {run written : List Float} {result : Outcome} where
   }
 
   -- a check in front of an outcome
-  check :
+  pub check :
       {first : ℕ} (n : ℕ) (passed : Bool) (o : Outcome) → (passed ≡ true → Decision run written result first o)
       → Decision run written result (cond (not passed) (suc n) first) (cond passed o (refused (suc n) run written))
   check n true o next = next refl
@@ -91,8 +91,8 @@ module _ {run written : List Float} {result : Outcome} where
 
   -- a check in front of what the filter answers
   check_answered :
-      {first : ℕ} (n : ℕ) (passed : Bool) (a : Answered) (f : EqFilter) → Decision run written result first (range_checked (outcome_of a written) run written)
-      → Decision run written result (cond (not passed) (suc n) first) (range_checked (outcome_of (cond passed a (refuse (suc n) f)) written) run written)
+      {first : ℕ} (n : ℕ) (passed : Bool) (a : Answered) (f : EqFilter) → Decision run written result first (range_checked (outcome_of a run written) run written)
+      → Decision run written result (cond (not passed) (suc n) first) (range_checked (outcome_of (cond passed a (refuse (suc n) f)) run written) run written)
   unfolding range_checked
   check_answered n true a f next = next
   check_answered n false a f next = refuses n
@@ -114,19 +114,19 @@ module _ (run written : List Float) where
 
 request_decision :
     (r : Request) (f : EqFilter) (run written : List Float) → all_finite run ≡ true → Asks r → length written ≡ written_by r
-    → Decision run written (accepted_outcome r f run written) (first_of (later_checks r f)) (range_checked (performed r f run written) run written)
+    → Decision run written (accepted_outcome r f run written) (first_of (later_checks r f run)) (range_checked (performed r f run written) run written)
 unfolding performed propagate update applied first_of all_finite range_checked
 request_decision (refusal n) f run written finite asks none = absurd asks
 request_decision (propagation u dt q) f run written finite asks none =
     check_answered 2 (turn_fits (half_step f u dt)) _ f
     (check_answered 2 (turn_fits (full_step f u dt)) _ f
-    (in_range_lem run written (accepted_outcome (propagation u dt q) f run written) (all_finite (to_run (propagated f u dt q))) refl (rw (nil_from_length written none))))
+    (in_range_lem run written (accepted_outcome (propagation u dt q) f run written) (all_finite (to_run (propagated f u dt q) (alphas_of run))) refl (rw (nil_from_length written none))))
 request_decision (measurement w m noise alpha) f run written finite asks none =
     let c = m.output in
     let y = m.innovation in
     let u = correction w (gain w f c y noise alpha) c y noise in
     let value = is_finite (nis w (entries_of w (raw_factor w f c noise)) y) in
-    let left = all_finite (to_run (corrected f u)) in
+    let left = all_finite (to_run (corrected f u) (alphas_of run)) in
     check_answered 3 (definite (raw_factor w f c noise)) _ f
     (check_answered 3 (definite (inflated_factor w f c y noise alpha)) _ f
     (check_answered 2 (turn_fits (step u)) _ f
@@ -137,8 +137,8 @@ request_decision estimate f run written finite asks none =
 -- the check for null vectors, in front of the others
 null_decision :
     (null : Bool) (r : Request) (f : EqFilter) (run written : List Float) → AsksBy null r
-    → (Asks r → Decision run written (accepted_outcome r f run written) (first_of (later_checks r f)) (range_checked (performed r f run written) run written))
-    → Decision run written (accepted_outcome r f run written) (first_of (unless null_refusal (not null) ∷ later_checks r f)) (range_checked (performed r f run written) run written)
+    → (Asks r → Decision run written (accepted_outcome r f run written) (first_of (later_checks r f run)) (range_checked (performed r f run written) run written))
+    → Decision run written (accepted_outcome r f run written) (first_of (unless null_refusal (not null) ∷ later_checks r f run)) (range_checked (performed r f run written) run written)
 unfolding performed first_of range_checked
 null_decision true r f run written asks next = rw asks (refuses 6)
 null_decision false r f run written asks next = next asks
@@ -147,12 +147,12 @@ null_decision false r f run written asks next = next asks
 
 -- what an accepted call leaves
 abbrev pub accepted_call : Kind → List Float → List Float → List Float → Outcome
-accepted_call kind run v written = accepted_outcome (request_of kind (from_run run) v) (from_run run) run written
+accepted_call kind run v written = accepted_outcome (request_of kind run v) (from_run run) run written
 
 pub call_decision :
     (kind : Kind) (run v written : List Float)
     → Decision run written (accepted_call kind run v written) (first_of (checks kind run v written)) (call kind run v written)
-unfolding call first_of
+unfolding call_in first_of
 call_decision kind run v written =
     check 0 (lengths_fit (form_of kind) run v (length written)) _ (λ fits.
     check 1 (all_finite run && all_finite v) _ (λ finite.
@@ -160,8 +160,8 @@ call_decision kind run v written =
     let l = eqb-true (length v) (call_length kind) (and_parts (eqb (length run) filter_length) _ runs.0).1 in
     let n = eqb-true (length written) (written_length kind) runs.1 in
     let each = and_parts (all_finite run) _ finite in
-    null_decision (has_null kind v) (request_of kind (from_run run) v) (from_run run) run written (call_asks kind (from_run run) v l each.1) (λ asks.
-    request_decision (request_of kind (from_run run) v) (from_run run) run written each.0 asks (n ∙ (kind_laws kind).writes (from_run run) v))))
+    null_decision (has_null kind v) (request_of kind run v) (from_run run) run written (call_asks kind run v l each.1) (λ asks.
+    request_decision (request_of kind run v) (from_run run) run written each.0 asks (n ∙ (kind_laws kind).writes three_alphas run v))))
 
 pub start_decision : (run v : List Float) → Decision run [] (record { answer = Fine; run = started v; written = [] }) (first_of (start_checks run v)) (start run v)
 unfolding start first_of all_finite

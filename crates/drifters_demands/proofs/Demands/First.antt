@@ -17,6 +17,7 @@ use Rattle.drifters_demands.proofs.Demands.Sheets.{checked_sheet}
 use Rattle.drifters_demands.proofs.Demands.Decision.{checked, call_decision, start_decision}
 use Rattle.drifters_demands.proofs.Demands.Mirrored.{call_mirrored}
 use Rattle.drifters_demands.proofs.Demands.Compasses.{compasses_checked}
+use Rattle.drifters_demands.proofs.Demands.Upgrade.{upgrade_decision, downgrade_decision}
 
 -- ---- refused as null
 
@@ -35,11 +36,11 @@ first_not_null (c ∷ cs) h e = go c.refuses (first_not_null cs h.1) e
     go false rest e = rest e
 
 -- each of the later checks has
-later_smaller : (r : Request) (f : EqFilter) → SmallerNumbers (later_checks r f)
-later_smaller (refusal n) f = tt
-later_smaller (propagation u dt q) f = (lit< tt, (lit< tt, (lit< tt, tt)))
-later_smaller (measurement w m noise alpha) f = (lit< tt, (lit< tt, (lit< tt, (lit< tt, tt))))
-later_smaller estimate f = (lit< tt, tt)
+later_smaller : (r : Request) (f : EqFilter) (run : List Float) → SmallerNumbers (later_checks r f run)
+later_smaller (refusal n) f run = tt
+later_smaller (propagation u dt q) f run = (lit< tt, (lit< tt, (lit< tt, tt)))
+later_smaller (measurement w m noise alpha) f run = (lit< tt, (lit< tt, (lit< tt, (lit< tt, tt))))
+later_smaller estimate f run = (lit< tt, tt)
 
 -- the first check that refuses is that one
 null_first : (lengths finite null : Bool) (later : ℕ) → (later ≡ null_refusal → ⊥)
@@ -62,9 +63,9 @@ module _ (kind : Kind) (run v written : List Float) where
   null_call : (call kind run v written).answer ≡ Refused null_refusal → NullCall kind run v written
   unfolding first_of
   null_call e =
-      let later = later_checks (request_of kind (from_run run) v) (from_run run) in
+      let later = later_checks (request_of kind run v) (from_run run) run in
       let tests = null_first _ _ (has_null kind v) (first_of later)
-      (first_not_null later (later_smaller (request_of kind (from_run run) v) (from_run run))) (sym number ∙ ap number_of e) in
+      (first_not_null later (later_smaller (request_of kind run v) (from_run run) run)) (sym number ∙ ap number_of e) in
       record { lengths = tests.0; finite = tests.1; null = tests.2 }
 
   null_refused : NullCall kind run v written → (call kind run v written).answer ≡ Refused null_refusal
@@ -79,6 +80,8 @@ demand1 = record {
   null = λ kind run v written. (null_call kind run v written, null_refused kind run v written);
   compasses = compasses_checked;
   starts = λ run v. checked (start_decision run v);
+  upgrades = λ run written. checked (upgrade_decision run written);
+  downgrades = λ run written. checked (downgrade_decision run written);
   sheets = checked_sheet;
   mirrored = call_mirrored;
 }

@@ -21,7 +21,7 @@ use Rattle.drifters_lie.specs.Lie.{vec3_at}
 use Rattle.drifters_symmetry.specs.declared.group.Symmetry.{Symmetry}
 use Rattle.drifters_eqf.specs.Answer.{null_refusal}
 use Rattle.drifters_eqf.specs.Filter.{measured_units, measured_direction}
-use Rattle.drifters_eqf.specs.declared.filter.EqFilter.{EqFilter}
+use Rattle.drifters_entry.specs.Layout.{from_run}
 use Rattle.drifters_kind.specs.Kind.{call_length}
 use Rattle.drifters_kind.specs.declared.kind.Kind.{Kind}
 use Rattle.drifters_kind.specs.declared.kind.Kind.TheVariants.{Propagate, Position, Velocity, Direction, General, State, Scalar}
@@ -137,14 +137,14 @@ unfolding measured_direction
 direction_asks x measured north noise alpha h k =
     rw (normalized_by measured h, normalized_by north k) (by_units (norm_is_zero measured) (norm_is_zero north) x _ _ noise alpha)
 
-pub call_asks : (kind : Kind) (f : EqFilter) (v : List Float) → length v ≡ call_length kind → all_finite v ≡ true → AsksBy (has_null kind v) (request_of kind f v)
-call_asks Propagate f v l h = tt
-call_asks Position f v l h = tt
-call_asks Velocity f v l h = tt
-call_asks Direction f v l h = direction_asks f.x _ _ _ _ (vector 0 (lit< tt)) (vector 3 (lit< tt))
+pub call_asks : (kind : Kind) (run v : List Float) → length v ≡ call_length kind → all_finite v ≡ true → AsksBy (has_null kind v) (request_of kind run v)
+call_asks Propagate run v l h = tt
+call_asks Position run v l h = tt
+call_asks Velocity run v l h = tt
+call_asks Direction run v l h = direction_asks (from_run run).x _ _ _ _ (vector 0 (lit< tt)) (vector 3 (lit< tt))
   where
     vector : (i : ℕ) → i + 2 < 15 → FiniteVec3 (vec3_at v i)
     vector i I = record { x = finite_at v i h (rw l (omega arith)); y = finite_at v (i + 1) h (rw l (omega arith)); z = finite_at v (i + 2) h (rw l I) }
-call_asks General f v l h = tt
-call_asks State f v l h = tt
-call_asks Scalar f v l h = tt
+call_asks General run v l h = tt
+call_asks State run v l h = tt
+call_asks Scalar run v l h = tt

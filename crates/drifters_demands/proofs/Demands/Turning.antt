@@ -10,10 +10,10 @@ use lib.ListN.{length, drop, length-append, length-take, length-drop, get_or-app
 use lib.Seq.{drop_at, get_or-take, get_or-drop}
 use lib.Ieee.{Float, nan}
 use Rattle.drifters_eqf.specs.Answer.{Answer, length_refusal, blank_refusal}
-use Rattle.drifters_entry.specs.Layout.{part}
+use Rattle.drifters_entry.specs.Layout.{three_alphas, part}
 use Rattle.drifters_entry.specs.Entry.{Outcome}
 use Rattle.drifters_kind.specs.declared.kind.Kind.TheVariants.{Direction}
-use Rattle.drifters_compasses.specs.Compasses.{reading_length, north_noise_length, count_of, compasses_fit, tried, direction_numbers, attempt, BestTry, nothing, reading, takes_place, better_by, best_of, CompassesOutcome, compasses_outcome, selected, update_compasses}
+use Rattle.drifters_compasses.specs.Compasses.{reading_length, north_noise_length, count_of, compasses_fit, tried, direction_numbers, attempt_in, BestTry, nothing, reading, takes_place, better_by, best_of, CompassesOutcome, compasses_outcome, selected, update_compasses_in, update_compasses}
 use Rattle.drifters_compasses.specs.Compasses as compasses
 use Rattle.drifters_demands.specs.Like.{Like, Signs}
 use Rattle.drifters_demands.specs.Turn.{plain, then_signs, north_noise_signs, filter_signs, call_signs}
@@ -91,8 +91,8 @@ pub record TurnedChoice (s : Signs) (o p : CompassesOutcome) : Type 0 where
 
 module _ {s : Signs} {run run' readings readings' v v' : List Float} (R : Turned (filter_signs s) run run') (D : Turned plain readings readings')
     (N : Turned (then_signs north_noise_length (north_noise_signs s) plain) v v') where
-  like_attempt : (j : ℕ) → j * reading_length + reading_length ≤ length readings → LikeOutcome s (attempt run readings v j) (attempt run' readings' v' j)
-  unfolding attempt direction_numbers
+  like_attempt : (j : ℕ) → j * reading_length + reading_length ≤ length readings → LikeOutcome s (attempt_in three_alphas run readings v j) (attempt_in three_alphas run' readings' v' j)
+  unfolding attempt_in direction_numbers
   like_attempt j h =
       like_call Direction (agrees s) R
       (turned_append {n = 3} (simp (length-take, length-drop) (omega arith)) (turned_part (j * reading_length) reading_length D) N) (turned_zeros 0)
@@ -105,7 +105,7 @@ module _ {s : Signs} {run run' readings readings' v v' : List Float} (R : Turned
   like_refusal n = record { answer = both_compasses_refused; run = R }
 
   pub compasses_turned : (budget : ℕ) → TurnedChoice s (update_compasses run readings v budget) (update_compasses run' readings' v' budget)
-  unfolding update_compasses
+  unfolding update_compasses_in
   compasses_turned budget =
       cond_keeps (TurnedChoice s) (λ i. compasses_fit (R.size i) (D.size i) (N.size i) budget)
       (λ fit.

@@ -6,7 +6,7 @@ use mathlib.Core.Bool.{Bool, true, false, ◌&&◌, not-not}
 use mathlib.Core.List.{List}
 use borrow.Author.Tests.{eqb-true}
 use lib.Dec.{eqb, lit<}
-use lib.ListN.{length, take, drop, length-replicate, get_or-replicate}
+use lib.ListN.{length, take, drop, length-drop, length-replicate, get_or-replicate}
 use lib.Seq.{get_or-take, get_or-drop, drop-drop}
 use lib.Ieee.{Float, nan}
 use Rattle.std.specs.Prelude.{Option}
@@ -20,20 +20,20 @@ use Rattle.drifters_demands.proofs.Signs.Matrix.{like_all_finite_list}
 use Rattle.drifters_eqf.specs.Answer.{Answer, length_refusal, blank_refusal, range_refusal, values_of}
 use Rattle.drifters_lie.specs.Lie.{vec3_at}
 use Rattle.drifters_eqf.specs.Filter.{Answered, Measurement}
-use Rattle.drifters_entry.specs.Layout.{filter_length, part, from_run, to_run, state_to_run, SizedFilter, SizedState}
+use Rattle.drifters_entry.specs.Layout.{filter_length, three_alphas, part, alphas_of, from_run, to_run, state_to_run, SizedFilter, SizedState}
 use Rattle.drifters_kind.specs.Kind.{form_of, call_length, written_length}
-use Rattle.drifters_entry.specs.Entry.{Request, input_at, process_noise_at, direction_request, request_of, Outcome, outcome_of, performed, refused, finite_outcome, if_finite, range_checked_as, range_checked, lengths_fit, call}
+use Rattle.drifters_entry.specs.Entry.{Request, input_at, process_noise_at, direction_request, request_of, Outcome, outcome_of, performed, refused, finite_outcome, if_finite, range_checked_as, range_checked, lengths_fit, call_in, call}
 use Rattle.drifters_demands.specs.Turn.{plain, then_signs, matrix_signs, noise_signs, filter_signs, call_signs, state_signs}
 use Rattle.drifters_symmetry.specs.declared.group.State.{State as StateRecord}
 use Rattle.drifters_eqf.specs.declared.filter.EqFilter.{EqFilter}
 use Rattle.drifters_kind.specs.declared.kind.Kind.{Kind}
 use Rattle.drifters_kind.specs.declared.kind.Kind.TheVariants.{Propagate, Position, Velocity, Direction, General, State, Scalar}
-use Rattle.drifters_entry.proofs.RoundTrips.{round_trips, length_to_run, length_state_to_run, sized_from_run}
+use Rattle.drifters_entry.proofs.RoundTrips.{round_trips, alphas_after, length_to_run, length_state_to_run, sized_from_run}
 use Rattle.drifters_demands.proofs.Sizes.{sized_propagate, sized_update, sized_nav_state}
 use Rattle.drifters_demands.proofs.Signs.GroupRecords.{LikeState, LikeInput}
 use Rattle.drifters_demands.proofs.Signs.FilterRecords.{LikeProcessNoise, LikeFilter, LikeAnswer, both_nis_lem, both_fine, both_refused_lem, LikeAnswered, LikeMeasurement, LikeMeasured, both_measured, both_unmeasured, LikeRequest, like_refusal, like_propagation, like_measurement, like_estimate}
 use Rattle.drifters_demands.proofs.Signs.Filter.{like_nav_state, like_propagate, like_update, like_measured_position, like_measured_velocity, like_measured_direction}
-use Rattle.drifters_demands.proofs.Signs.Layout.{Turned, like_first, like_rest, like_part, like_from_run, like_of_from_run, like_of_state_from_run}
+use Rattle.drifters_demands.proofs.Signs.Layout.{Turned, like_first, like_rest, like_part, like_from_run, like_of_from_run, like_alphas_of, like_of_state_from_run}
 
 -- ---- runs
 pub turned_zeros : {σ : ℕ → Bool} (n : ℕ) → Turned σ (zeros n) (zeros n)
@@ -49,13 +49,31 @@ pub turned_finite : {σ : ℕ → Bool} {a b : List Float} → Turned σ a b →
 turned_finite h = like_all_finite_list h.alike refl (sym h.size)
 
 -- ---- a filter, and an estimate, as runs
-to_run_turned : {s : Signs} {f g : EqFilter} → LikeFilter s no_turn no_turn f g → SizedFilter f → SizedFilter g → Turned (filter_signs s) (to_run f) (to_run g)
-to_run_turned {s} {f} {g} h F G = record {
-  size = length_to_run f F ∙ sym (length_to_run g G);
-  alike = rw (length_to_run f F)
-      (like_of_from_run s (to_run f) (to_run g)
-      (subst₂ (LikeFilter s no_turn no_turn) (sym (round_trips.filter_record f F)) (sym (round_trips.filter_record g G)) h));
-}
+
+-- two filters' runs of the stated length
+record TurnedFilter (s : Signs) (run run' : List Float) : Type 0 where
+  size : length run ≡ filter_length
+  runs : Turned (filter_signs s) run run'
+
+module _ {s : Signs} {run run' : List Float} (R : TurnedFilter s run run') where
+  alike : LikeList (filter_signs s) filter_length run run'
+  alike = subst (λ (n : ℕ). LikeList (filter_signs s) n run run') R.size R.runs.alike
+
+  -- a filter as a run, with its alphas
+  to_run_turned : {f g : EqFilter} → LikeFilter s no_turn no_turn f g → SizedFilter f → SizedFilter g
+      → Turned (filter_signs s) (to_run f (alphas_of run)) (to_run g (alphas_of run'))
+  to_run_turned {f} {g} h F G =
+      let a = alphas_of run in
+      let b = alphas_of run' in
+      let l : length (to_run f a) ≡ filter_length = length_to_run f a F ∙ simp length-drop (omega (arith, R.size)) in
+      let m : length (to_run g b) ≡ filter_length = length_to_run g b G ∙ simp length-drop (omega (arith, R.size, R.runs.size)) in
+      record {
+        size = l ∙ sym m;
+        alike = rw l
+            (like_of_from_run s (to_run f a) (to_run g b)
+            (subst₂ (LikeFilter s no_turn no_turn) (sym (round_trips.filter_record f a F)) (sym (round_trips.filter_record g b G)) h)
+            (rw (alphas_after f a F, alphas_after g b G) (like_alphas_of s alike)));
+      }
 
 state_to_run_turned : {s : Signs} {xi zeta : StateRecord} → LikeState s no_turn no_turn xi zeta → SizedState xi → SizedState zeta
     → Turned (state_signs s) (state_to_run xi) (state_to_run zeta)
@@ -99,9 +117,9 @@ module _ {s : Signs} {written written' : List Float} (W : Turned (state_signs s)
     unfolding range_checked
     like_range_checked = like_range_checked_as h.answer
 
-  like_outcome_of : {a z : Answered} → LikeAnswered s no_turn no_turn a z → SizedFilter a.filter → SizedFilter z.filter
-      → LikeOutcome s (outcome_of a written) (outcome_of z written')
-  like_outcome_of h A Z = record { answer = h.answer; written = W; run = to_run_turned h.filter A Z }
+  like_outcome_of : {a z : Answered} {run run' : List Float} → LikeAnswered s no_turn no_turn a z → SizedFilter a.filter → SizedFilter z.filter → TurnedFilter s run run'
+      → LikeOutcome s (outcome_of a run written) (outcome_of z run' written')
+  like_outcome_of h A Z R = record { answer = h.answer; written = W; run = to_run_turned R h.filter A Z }
 
 -- ---- the numbers of calls
 module _ {v w : List Float} (h : LikeList plain 25 v w) where
@@ -176,46 +194,46 @@ like_direction_request (both_measured M) N alpha = like_measurement M N alpha
 like_direction_request both_unmeasured N alpha = like_refusal
 
 -- a kind's numbers that take its signs ask for what is alike
-like_request : {s : Signs} {f g : EqFilter} → LikeFilter s no_turn no_turn f g → (kind : Kind) {v w : List Float} → LikeList (call_signs kind s) (call_length kind) v w
-    → LikeRequest s (request_of kind f v) (request_of kind g w)
-like_request F Propagate h = like_propagation (like_input_at h) (h.entry 6 (lit< tt)) (like_process_noise_at h)
-like_request {s} F Position h =
-    like_measurement (like_measured_position F.x record { x = h.entry 0 (lit< tt); y = h.entry 1 (lit< tt); z = h.entry 2 (lit< tt) })
-    (like_noise (like_rest 3 9 (axis s) (noise_signs s) h)) F.alpha
-like_request {s} F Velocity h =
+like_request : {s : Signs} {run run' : List Float} → LikeList (filter_signs s) filter_length run run' → (kind : Kind) {v w : List Float}
+    → LikeList (call_signs kind s) (call_length kind) v w → LikeRequest s (request_of kind run v) (request_of kind run' w)
+like_request R Propagate h = like_propagation (like_input_at h) (h.entry 6 (lit< tt)) (like_process_noise_at h)
+like_request {s} R Position h =
+    like_measurement (like_measured_position (like_from_run s R).x record { x = h.entry 0 (lit< tt); y = h.entry 1 (lit< tt); z = h.entry 2 (lit< tt) })
+    (like_noise (like_rest 3 9 (axis s) (noise_signs s) h)) (R.entry three_alphas.position (lit< tt))
+like_request {s} R Velocity h =
     like_measurement
-    (like_measured_velocity F.x record { x = h.entry 0 (lit< tt); y = h.entry 1 (lit< tt); z = h.entry 2 (lit< tt) }
+    (like_measured_velocity (like_from_run s R).x record { x = h.entry 0 (lit< tt); y = h.entry 1 (lit< tt); z = h.entry 2 (lit< tt) }
     record { x = h.entry 3 (lit< tt); y = h.entry 4 (lit< tt); z = h.entry 5 (lit< tt) })
-    (noise_after_six (axis s) plain h) F.alpha
-like_request {s} F Direction h =
+    (noise_after_six (axis s) plain h) (R.entry three_alphas.velocity (lit< tt))
+like_request {s} R Direction h =
     like_direction_request
-    (like_measured_direction F.x record { x = h.entry 0 (lit< tt); y = h.entry 1 (lit< tt); z = h.entry 2 (lit< tt) }
+    (like_measured_direction (like_from_run s R).x record { x = h.entry 0 (lit< tt); y = h.entry 1 (lit< tt); z = h.entry 2 (lit< tt) }
     record { x = h.entry 3 (lit< tt); y = h.entry 4 (lit< tt); z = h.entry 5 (lit< tt) })
-    (noise_after_six plain (axis s) h) F.alpha
-like_request F General h = like_measurement (like_general h) (noise_general h) F.alpha
-like_request F State h = like_estimate
-like_request {s} F Scalar h = like_measurement (like_scalar s h) (variance_scalar s h) F.alpha
+    (noise_after_six plain (axis s) h) (R.entry three_alphas.direction (lit< tt))
+like_request R General h = like_measurement (like_general h) (noise_general h) (R.entry three_alphas.position (lit< tt))
+like_request R State h = like_estimate
+like_request {s} R Scalar h = like_measurement (like_scalar s h) (variance_scalar s h) (R.entry three_alphas.position (lit< tt))
 
 -- what is alike asked comes to what is alike
 like_performed : {s : Signs} {f g : EqFilter} {r q : Request} {run run' written written' : List Float} → LikeFilter s no_turn no_turn f g → SizedFilter f → SizedFilter g
-    → Turned (filter_signs s) run run' → Turned (state_signs s) written written' → LikeRequest s r q
+    → TurnedFilter s run run' → Turned (state_signs s) written written' → LikeRequest s r q
     → LikeOutcome s (performed r f run written) (performed q g run' written')
 unfolding performed
-like_performed F A B R W (like_refusal {n}) = like_refused W n R
+like_performed F A B R W (like_refusal {n}) = like_refused W n R.runs
 like_performed {f = f} {g = g} F A B R W (like_propagation {u} {v} {t} {r} {p} {q} U T Q) =
-    like_outcome_of W (like_propagate F U T Q) (sized_propagate f u t p A) (sized_propagate g v r q B)
+    like_outcome_of W (like_propagate F U T Q) (sized_propagate f u t p A) (sized_propagate g v r q B) R
 like_performed {f = f} {g = g} F A B R W (like_measurement {w = w} {z} {y} {noise} {noise'} {a} {b} M N alpha) =
     like_outcome_of W (like_update F M.output M.innovation N alpha)
-    (sized_update w f z.output z.innovation noise a A) (sized_update w g y.output y.innovation noise' b B)
+    (sized_update w f z.output z.innovation noise a A) (sized_update w g y.output y.innovation noise' b B) R
 like_performed {f = f} {g = g} F A B R W like_estimate =
-    record { answer = both_fine; written = state_to_run_turned (like_nav_state F) (sized_nav_state f) (sized_nav_state g); run = R }
+    record { answer = both_fine; written = state_to_run_turned (like_nav_state F) (sized_nav_state f) (sized_nav_state g); run = R.runs }
 
 -- ---- the call
 -- whatever the signs past the numbers that the kind has: a call with more is refused
 pub like_call : {s : Signs} {σ : ℕ → Bool} {run run' v w written written' : List Float} (kind : Kind)
     → ((i : ℕ) → i < call_length kind → σ i ≡ call_signs kind s i) → Turned (filter_signs s) run run' → Turned σ v w → Turned (state_signs s) written written'
     → LikeOutcome s (call kind run v written) (call kind run' w written')
-unfolding call
+unfolding call_in
 like_call {s} {σ} {run} {run'} {v} {w} {written} {written'} kind agrees R N W =
     cond_keeps (LikeOutcome s) fits
     (λ e.
@@ -241,8 +259,8 @@ like_call {s} {σ} {run} {run'} {v} {w} {written} {written'} kind agrees R N W =
     }
 
     result : (length run ≡ filter_length) × (length v ≡ call_length kind)
-        → LikeOutcome s (performed (request_of kind (from_run run) v) (from_run run) run written)
-        (performed (request_of kind (from_run run') w) (from_run run') run' written')
+        → LikeOutcome s (performed (request_of kind run v) (from_run run) run written)
+        (performed (request_of kind run' w) (from_run run') run' written')
     result e =
-        let F = like_from_run s (subst (λ (n : ℕ). LikeList (filter_signs s) n run run') e.0 R.alike) in
-        like_performed F (sized_from_run run e.0) (sized_from_run run' (sym R.size ∙ e.0)) R W (like_request F kind (numbers e.1))
+        let T : TurnedFilter s run run' = record { size = e.0; runs = R } in
+        like_performed (like_from_run s (alike T)) (sized_from_run run (omega (arith, e.0))) (sized_from_run run' (omega (arith, e.0, R.size))) T W (like_request (alike T) kind (numbers e.1))

@@ -134,7 +134,7 @@ module _ {s b m : Signs} {f f' : EqFilter} {u u' : Input} {dt dt' : Float} {q q'
 
   pub like_propagated : LikeFilter s b m (propagated f u dt q) (propagated f' u' dt' q')
   unfolding propagated
-  like_propagated = record { x = like_compose F.x (like_exp (like_full_step F U T)); sigma = like_propagated_sigma; gravity = F.gravity; alpha = F.alpha }
+  like_propagated = record { x = like_compose F.x (like_exp (like_full_step F U T)); sigma = like_propagated_sigma; gravity = F.gravity }
 
   pub like_propagate : LikeAnswered s b m (propagate f u dt q) (propagate f' u' dt' q')
   unfolding propagate
@@ -205,7 +205,6 @@ module _ {s b m : Signs} {f f' : EqFilter} {u u' : Correction} (F : LikeFilter s
     x = like_compose (like_exp like_step) F.x;
     sigma = like_symmetrize (like_reset_sigma like_step (like_joseph F.sigma U.kc U.noise));
     gravity = F.gravity;
-    alpha = F.alpha;
   }
 
   pub like_applied : {r r' : Float} → Like false r r' → LikeAnswered s b m (applied f r u) (applied f' r' u')

@@ -27,7 +27,6 @@ pub record LikeFilter (s b m : Signs) (f g : EqFilter) : Type 0 where
   pub x : LikeSymmetry s b s m f.x g.x
   pub sigma : LikeMatrix (axis s) (axis s) 21 21 f.sigma.«data» g.sigma.«data»
   pub gravity : LikeVec3 (axis s) f.gravity g.gravity
-  pub alpha : Like false f.alpha g.alpha
 
 -- both a normalised innovation squared, alike as numbers; both fine; or both refused with the same number
 pub data LikeAnswer : Answer → Answer → Type 0 where

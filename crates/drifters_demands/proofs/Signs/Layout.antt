@@ -19,7 +19,7 @@ use Rattle.drifters_demands.proofs.Signs.Matrix.{like_flat, like_matrix_as}
 use Rattle.drifters_demands.proofs.Signs.Vec3.{below_three}
 use Rattle.drifters_lie.specs.Lie.{vec3_at}
 use Rattle.drifters_demands.specs.Turn.{plain, then_signs, matrix_signs, row_signs, filter_signs, state_signs, turned}
-use Rattle.drifters_entry.specs.Layout.{velocity_place, position_place, gamma_place, delta_place, e_place, sigma_place, gravity_place, alpha_place, filter_length, bias_place, lever_place, mag_place, from_run, state_from_run}
+use Rattle.drifters_entry.specs.Layout.{velocity_place, position_place, gamma_place, delta_place, e_place, sigma_place, gravity_place, alpha_place, filter_length, alphas_of, bias_place, lever_place, mag_place, from_run, state_from_run}
 use Rattle.drifters_kind.specs.Kind.{state_length}
 use Rattle.drifters_demands.proofs.Signs.GroupRecords.{axis_no_turn, LikeState}
 use Rattle.drifters_demands.proofs.Signs.FilterRecords.{LikeFilter}
@@ -153,16 +153,14 @@ module _ (s : Signs) where
         };
         sigma = like_part (axis s) (axis s) 21 21 (like_first 441 (after gravity_place) (matrix_signs 21 (axis s) (axis s)) from_gravity sigma_on);
         gravity = record { x = h.entry gravity_place (lit< tt); y = h.entry (gravity_place + 1) (lit< tt); z = h.entry (gravity_place + 2) (lit< tt) };
-        alpha = h.entry alpha_place (lit< tt);
       }
 
-  pub like_of_from_run : (a b : List Float) → LikeFilter s no_turn no_turn (from_run a) (from_run b) → LikeList (filter_signs s) filter_length a b
+  pub like_of_from_run : (a b : List Float) → LikeFilter s no_turn no_turn (from_run a) (from_run b) → LikeList plain (after alpha_place) (alphas_of a) (alphas_of b)
+      → LikeList (filter_signs s) filter_length a b
   unfolding from_run
-  like_of_from_run a b h =
+  like_of_from_run a b h alphas =
       let gravity : LikeList from_gravity (after gravity_place) (drop gravity_place a) (drop gravity_place b) =
-      then_at a b gravity_place 3 (after alpha_place) (axis s) plain (like_at_vec3 (axis s) a b gravity_place h.gravity) record {
-        entry = λ i I. let e : i ≡ 0 = omega arith in rw (get_or-drop alpha_place a i nan, get_or-drop alpha_place b i nan, e) h.alpha;
-      } in
+      then_at a b gravity_place 3 (after alpha_place) (axis s) plain (like_at_vec3 (axis s) a b gravity_place h.gravity) alphas in
       let sigma : LikeList from_sigma (after sigma_place) (drop sigma_place a) (drop sigma_place b) =
       then_at a b sigma_place 441 (after gravity_place) (matrix_signs 21 (axis s) (axis s)) from_gravity (like_of_part (axis s) (axis s) 21 21 h.sigma) gravity in
       let e : LikeList from_e (after e_place) (drop e_place a) (drop e_place b) = then_at a b e_place 9 (after sigma_place) (row_signs s) from_sigma (rotation_at a b e_place s h.x.e) sigma in
@@ -171,6 +169,13 @@ module _ (s : Signs) where
       (vector_at a b position_place s 9 h.x.c.position
       (vector_at a b gamma_place s 6 h.x.gamma.omega (vector_at a b (gamma_place + 3) s 3 h.x.gamma.nu (like_at_vec3 (axis s) a b delta_place h.x.delta)))) in
       then_at a b 0 9 (after velocity_place) (row_signs s) from_velocity (rotation_at a b 0 s h.x.c.rotation) (then_at a b velocity_place 15 (after e_place) (axis s) from_e vectors e)
+
+  -- the alphas do not turn
+  pub like_alphas_of : {a b : List Float} → LikeList (filter_signs s) filter_length a b → LikeList plain (after alpha_place) (alphas_of a) (alphas_of b)
+  like_alphas_of {a} {b} h = record { entry = below_three (λ i. Like false (get_or (alphas_of a) i nan) (get_or (alphas_of b) i nan)) (alpha 0 (h.entry alpha_place (lit< tt))) (alpha 1 (h.entry (alpha_place + 1) (lit< tt))) (alpha 2 (h.entry (alpha_place + 2) (lit< tt))) }
+    where
+      alpha : (i : ℕ) → Like false (get_or a (alpha_place + i) nan) (get_or b (alpha_place + i) nan) → Like false (get_or (alphas_of a) i nan) (get_or (alphas_of b) i nan)
+      alpha i h = rw (get_or-drop alpha_place a i nan, get_or-drop alpha_place b i nan) h
 
   -- a state's run: the pose turns, bias, lever arm and calibration do not
   pub like_of_state_from_run : (a b : List Float) → LikeState s no_turn no_turn (state_from_run a) (state_from_run b) → LikeList (state_signs s) state_length a b

@@ -9,7 +9,8 @@ use Rattle.std.specs.Prelude.{◌/◌}
 use Rattle.std.specs.Simd.{first_chunks}
 use Rattle.std.proofs.lemmas.Result.{err_from_is_err_and}
 use Rattle.drifters_entry.proofs.Calls.{refused_none}
-use Rattle.drifters_compasses.specs.Compasses.{BestTry, reading_length, tried, attempt, best_of}
+use Rattle.drifters_compasses.specs.Compasses.{BestTry, reading_length, tried, attempt_in, best_of}
+use Rattle.drifters_entry.specs.Layout.{three_alphas}
 use Rattle.drifters_compasses.specs.Kept.{attempt_of}
 use Rattle.drifters_compasses.proofs.Tried.{tried_bounds}
 use Rattle.drifters_compasses.proofs.Tries.{best_of_first}
@@ -44,7 +45,7 @@ returns-then-not-all_finite c =
 -- the first readings are those that the run is cut into
 first : (run readings north_noise : List Float) (budget : ℕ) {b : BestTry} {cut : List (List Float)} {k : ℕ} → cut ≡ first_chunks reading_length (length readings / reading_length) readings
     → length cut ≡ length readings / reading_length → k ≡ tried budget (length readings / reading_length)
-    → b ≡ best_of (attempt_of run (take k cut) north_noise) (length (take k cut)) → b ≡ best_of (attempt run readings north_noise) k
+    → b ≡ best_of (attempt_of run (take k cut) north_noise) (length (take k cut)) → b ≡ best_of (attempt_in three_alphas run readings north_noise) k
 first run readings north_noise budget {k = k} is long few e =
     e ∙ best_of_first run readings north_noise (length readings / reading_length) k is long (rw few (tried_bounds.count budget (length readings / reading_length)))
 

@@ -22,11 +22,11 @@ fits c = passed _ _ _ _ (rw c.form.ensures at c.first_refusal.ensures) c.in_ok-f
 
 -- where it is told what is asked
 module _ (c : In_ok-asked) (fit : Passed c.args.kind c.in_ok-filter.filter.now c.args.numbers.now c.args.written.now) {a : Asked} (told : c.in_ok-asked.asked ≡ a) where
-  asks : as_request a (from_run c.in_ok-filter.filter.now) ≡ request_of c.args.kind (from_run c.in_ok-filter.filter.now) c.args.numbers.now
-  asks = ap (λ (x : Asked). as_request x (from_run c.in_ok-filter.filter.now)) (sym told) ∙ c.in_ok-asked.ensures
+  asks : as_request a ≡ request_of c.args.kind c.in_ok-filter.filter.now c.args.numbers.now
+  asks = ap as_request (sym told) ∙ c.in_ok-asked.ensures
 
-  made : {left : List Float} {o : Answer} → written_by (as_request a (from_run c.in_ok-filter.filter.now)) ≡ 0
-      → outcome o left [] ≡ range_checked (performed (as_request a (from_run c.in_ok-filter.filter.now)) (from_run c.in_ok-filter.filter.now) c.in_ok-filter.filter.now []) c.in_ok-filter.filter.now []
+  made : {left : List Float} {o : Answer} → written_by (as_request a) ≡ 0
+      → outcome o left [] ≡ range_checked (performed (as_request a) (from_run c.in_ok-filter.filter.now) c.in_ok-filter.filter.now []) c.in_ok-filter.filter.now []
       → outcome o left c.args.written.now ≡ call c.args.kind c.args.run.now c.args.numbers.now c.args.written.now
   made nothing e =
       let whole = rw (c.ok_or.ensures.ok_part, c.in_ok-filter.was) at c.as_mut_array.ensures.cases in

@@ -14,4 +14,4 @@ returns-in_err-filter c =
 pub returns : goal.returns
 unfolding performed
 returns c =
-    c.write_filter.ensures ∙ given c.args.run.now (rw c.from_run.ensures at c.in_ok-filter.ensures)
+    rw c.alphas_of.ensures at c.write_filter.ensures ∙ given c.args.run.now (rw c.from_run.ensures at c.in_ok-filter.ensures)

@@ -14,4 +14,4 @@ returns-in_err-updated g c =
 
 pub returns : goal.returns
 unfolding performed from_run
-returns g c = c.write_filter.ensures ∙ given c.args.run.now (rw c.from_run.ensures at c.in_ok-updated.ensures)
+returns g c = rw c.alphas_of.ensures at c.write_filter.ensures ∙ given c.args.run.now (rw c.from_run.ensures at c.in_ok-updated.ensures)

@@ -15,7 +15,7 @@ tested (Some x) e = e
 tested None e = e
 
 -- t is what the test found
-found : (c : After-filter_is_finite) {t : Bool} → c.is_none_or-nis_is_finite.result && c.filter_is_finite.result ≡ t → nis_finite c.args.nis && all_finite (to_run c.args.filter.now) ≡ t
+found : (c : After-filter_is_finite) {t : Bool} → c.is_none_or-nis_is_finite.result && c.filter_is_finite.result ≡ t → nis_finite c.args.nis && all_finite (to_run c.args.filter.now c.args.alphas) ≡ t
 found c e = sym (ap₂ ◌&&◌ (tested c.args.nis c.is_none_or-nis_is_finite.ensures) c.filter_is_finite.ensures) ∙ e
 
 pub returns-then-not-nis_is_finite-filter_is_finite : goal.returns-then-not-nis_is_finite-filter_is_finite
