@@ -35,9 +35,9 @@
 #include <stdint.h>
 
 #define DRIFTERS_VERSION_MAJOR 0
-#define DRIFTERS_VERSION_MINOR 6
+#define DRIFTERS_VERSION_MINOR 7
 #define DRIFTERS_VERSION_PATCH 0
-#define DRIFTERS_VERSION "0.6.0"
+#define DRIFTERS_VERSION "0.7.0"
 
 /* Codes; drifters_code_meaning, below, says what each means. */
 #define DRIFTERS_OK 0u
@@ -48,6 +48,7 @@
 #define DRIFTERS_REFUSED_RANGE 5u
 #define DRIFTERS_REFUSED_SHEET 6u /* no function answers it: it stands in the text of a broken sheet, "refused 6" */
 #define DRIFTERS_REFUSED_NULL 7u /* of a direction call alone; DRIFTERS_KIND_SCALAR, 7 too, is something else */
+#define DRIFTERS_REFUSED_UNEQUAL 8u /* of drifters_downgrade alone */
 
 /* drifters_code_word and drifters_code_meaning are in this file, not in the library. */
 #if defined(__cplusplus) || (defined(__STDC_VERSION__) && __STDC_VERSION__ >= 199901L)
@@ -70,6 +71,7 @@ DRIFTERS_INLINE const char *drifters_code_word(uint32_t code)
     case DRIFTERS_REFUSED_RANGE: return "range";
     case DRIFTERS_REFUSED_SHEET: return "sheet";
     case DRIFTERS_REFUSED_NULL: return "null";
+    case DRIFTERS_REFUSED_UNEQUAL: return "unequal";
     default: return "unknown";
     }
 }
@@ -82,7 +84,8 @@ DRIFTERS_INLINE const char *drifters_code_meaning(uint32_t code)
     case DRIFTERS_REFUSED_LENGTH:
         return "a run is not of its stated length, or a budget is above 8; check the length given with each run";
     case DRIFTERS_REFUSED_BLANK:
-        return "a number of the filter or of the call is infinite or not a number; check the call's numbers and alpha";
+        return "a number of the filter or of the call is infinite or not a number; check the call's numbers and the "
+               "alphas";
     case DRIFTERS_REFUSED_TURN:
         return "one step would turn by more than 8 rad, or by no number; check omega, dt and the innovation";
     case DRIFTERS_REFUSED_PIVOT:
@@ -93,6 +96,8 @@ DRIFTERS_INLINE const char *drifters_code_meaning(uint32_t code)
         return "a call sheet breaks its layout or cannot be read; check how it was built";
     case DRIFTERS_REFUSED_NULL:
         return "a direction's measured vector or north has norm 0; check that the compass is on and that north is set";
+    case DRIFTERS_REFUSED_UNEQUAL:
+        return "the filter's alphas have not all the same bits; set them to one number, of one sign where it is 0";
     default: return "no code of this library";
     }
 }
@@ -138,8 +143,14 @@ DRIFTERS_INLINE const char *drifters_code_meaning(uint32_t code)
 #define DRIFTERS_FILTER_E (DRIFTERS_FILTER_DELTA + 3)                           /* 24: 3 x 3 */
 #define DRIFTERS_FILTER_SIGMA (DRIFTERS_FILTER_E + 9)                           /* 33: covariance, 21 x 21 */
 #define DRIFTERS_FILTER_GRAVITY (DRIFTERS_FILTER_SIGMA + DRIFTERS_SIGMA_LENGTH) /* 474: m/s^2, reference frame */
-#define DRIFTERS_FILTER_ALPHA (DRIFTERS_FILTER_GRAVITY + 3)                     /* 477: one number, see the updates */
-#define DRIFTERS_FILTER_LENGTH (DRIFTERS_FILTER_ALPHA + 1)                      /* 478 */
+#define DRIFTERS_FILTER_POSITION_ALPHA (DRIFTERS_FILTER_GRAVITY + 3)            /* 477: one number, see the updates */
+#define DRIFTERS_FILTER_VELOCITY_ALPHA (DRIFTERS_FILTER_POSITION_ALPHA + 1)     /* 478: one number */
+#define DRIFTERS_FILTER_DIRECTION_ALPHA (DRIFTERS_FILTER_VELOCITY_ALPHA + 1)    /* 479: one number */
+#define DRIFTERS_FILTER_LENGTH (DRIFTERS_FILTER_DIRECTION_ALPHA + 1)            /* 480 */
+
+/* Filter with one alpha, as versions up to 0.6.0 have it. Its other places are those of a filter. */
+#define DRIFTERS_ONE_ALPHA_ALPHA (DRIFTERS_FILTER_GRAVITY + 3)   /* 477: one number */
+#define DRIFTERS_ONE_ALPHA_LENGTH (DRIFTERS_ONE_ALPHA_ALPHA + 1) /* 478 */
 
 /* Propagation. */
 #define DRIFTERS_PROPAGATE_OMEGA 0                              /* 0: gyroscope, rad/s, body frame */
@@ -221,21 +232,35 @@ DRIFTERS_INLINE const char *drifters_code_meaning(uint32_t code)
 extern "C" {
 #endif
 
-/* Writes a filter for a state, a covariance and gravity; alpha is 0.5. What the filter held before does not matter.
- * Sigma is J P J^T, where J maps the errors d(..) to the 21 coordinates and P is the diagonal of their variances. A
- * plain diagonal is wrong where the attitude is uncertain (mag goes with attitude) and away from the origin;
- * docs/MANUAL.md has an example. Codes: 1 (filter not 478, numbers not 477), 2, 5. */
+/* Writes a filter for a state, a covariance and gravity; each alpha is 0.5. What the filter held before does not
+ * matter. Sigma is J P J^T, where J maps the errors d(..) to the 21 coordinates and P is the diagonal of their
+ * variances. A plain diagonal is wrong where the attitude is uncertain (mag goes with attitude) and away from the
+ * origin; docs/MANUAL.md has an example. Codes: 1 (filter not 480, numbers not 477), 2, 5. */
 uint32_t drifters_start(double *filter, size_t filter_length, const double *numbers, size_t numbers_length);
 
+/* Changes a filter with one alpha over, with no new start: writes its numbers to filter, and its alpha to each of the
+ * three places. What filter held before does not matter. As long as nobody else writes an alpha, every later call on
+ * filter answers as version 0.6.0 does on the filter with one alpha, to the last bit. Codes: 1 (one_alpha not 478,
+ * filter not 480), 2 (of one_alpha only), tested in this order; a refusal changes neither run. */
+uint32_t drifters_upgrade(const double *one_alpha, size_t one_alpha_length, double *filter, size_t filter_length);
+
+/* Changes a filter back whose three alphas have equal bits: +0 and -0 are unequal. Writes its numbers, with the alpha
+ * once, to one_alpha; what that held before does not matter. Codes: 1 (filter not 480, one_alpha not 478), 2 (of filter
+ * only), 8, tested in this order; a refusal changes neither run. */
+uint32_t drifters_downgrade(const double *filter, size_t filter_length, double *one_alpha, size_t one_alpha_length);
+
 /* Propagates the filter over dt, which may be negative or zero. accel is (0, 0, -9.81) level and at rest in
- * north-east-down, where gravity is (0, 0, +9.81). Codes: 1 (filter not 478, numbers not 25), 2, 3, 5. */
+ * north-east-down, where gravity is (0, 0, +9.81). Codes: 1 (filter not 480, numbers not 25), 2, 3, 5. */
 uint32_t drifters_propagate(double *filter, size_t filter_length, const double *numbers, size_t numbers_length);
 
 /* The updates. An accepted one writes the new filter, and its normalised innovation squared (NIS) to nis, a run of one
  * number. Where the filter is consistent, the NIS is about 3 on average; for a direction about 2, for a scalar update
- * about 1. The filter's alpha, clamped to 0..1 by the call, says how a surprising measurement is taken: at 0 nearly at
- * full weight, at 1 least. The original's None is code 4. Codes: 1 (nis not 1, filter not 478, numbers not as stated),
- * 2, 4, 3, 5, tested in this order; a direction has 7 too, between 2 and 4; several compasses have 1 and 2 alone. */
+ * about 1. One of the filter's alphas, clamped to 0..1 by the call, says how a surprising measurement is taken: at 0
+ * nearly at full weight, at 1 least. Position, general and scalar updates take DRIFTERS_FILTER_POSITION_ALPHA, velocity
+ * updates DRIFTERS_FILTER_VELOCITY_ALPHA, direction updates and those by several compasses
+ * DRIFTERS_FILTER_DIRECTION_ALPHA. No update and no propagation changes an alpha. The original's None is code 4.
+ * Codes: 1 (nis not 1, filter not 480, numbers not as stated), 2, 4, 3, 5, tested in this order; a direction has 7 too,
+ * between 2 and 4; several compasses have 1 and 2 alone. */
 
 /* By a GNSS antenna position; numbers: 12. */
 uint32_t drifters_update_position(double *filter, size_t filter_length, const double *numbers, size_t numbers_length,
@@ -272,12 +297,12 @@ uint32_t drifters_update_scalar(double *filter, size_t filter_length, const doub
  * smaller on average: docs/MANUAL.md says what follows.
  *
  * readings: 3 numbers each, 1 to 8 of them; north_noise: 12; counts: 2. Codes: 1 (counts not 2, nis not 1, filter not
- * 478, readings not 3, 6, 9 .. 24, north_noise not 12, budget above 8), 2 (of filter, north and noise only). */
+ * 480, readings not 3, 6, 9 .. 24, north_noise not 12, budget above 8), 2 (of filter, north and noise only). */
 uint32_t drifters_update_compasses(double *filter, size_t filter_length, const double *readings, size_t readings_length,
                                    const double *north_noise, size_t north_noise_length, size_t budget,
                                    size_t *counts, size_t counts_length, double *nis, size_t nis_length);
 
-/* Writes the estimate to state, 33 numbers. Codes: 1 (filter not 478, state not 33), 2, 5. */
+/* Writes the estimate to state, 33 numbers. Codes: 1 (filter not 480, state not 33), 2, 5. */
 uint32_t drifters_nav_state(const double *filter, size_t filter_length, double *state, size_t state_length);
 
 /* Runs the bytes of a call sheet. Writes its text to the front of text and the text's length in bytes to length, a run

@@ -16,10 +16,10 @@ import unittest
 from repository import ROOT, TOOL, sheet
 
 # docs/MANUAL.md: how many numbers each kind has, and where each part begins.
-SIZES = [478, 25, 12, 15, 15, 75, 0, 23]
+SIZES = [480, 25, 12, 15, 15, 75, 0, 23]
 PLACES = [
     ("filter", [("A", 0), ("velocity", 9), ("position", 12), ("gamma", 15), ("delta", 21), ("E", 24), ("sigma", 33),
-                ("gravity", 474), ("alpha", 477)]),
+                ("gravity", 474), ("position_alpha", 477), ("velocity_alpha", 478), ("direction_alpha", 479)]),
     ("propagate", [("omega", 0), ("accel", 3), ("dt", 6), ("density.gyro", 7), ("density.accel", 10),
                    ("density.gyro_bias", 13), ("density.accel_bias", 16), ("density.lever", 19), ("density.mag", 22)]),
     ("position", [("antenna", 0), ("noise", 3)]),
@@ -57,7 +57,8 @@ STARTS = [
 ]
 
 REST = "A=identity velocity=zero position=zero gamma=zero delta=zero E=identity gravity=zero"
-FILTER = f"filter {REST} sigma=zero alpha=0.5"
+ALPHAS = "position_alpha=0.5 velocity_alpha=0.5 direction_alpha=0.5"
+FILTER = f"filter {REST} sigma=zero {ALPHAS}"
 GENERAL = "general output=zero innovation=zero noise=zero"
 SCALAR = "scalar output=zero innovation=0.5 variance=0.25"
 PROPAGATE = ("propagate omega=zero accel=zero dt=zero density.gyro=zero density.accel=zero density.gyro_bias=zero "
@@ -124,7 +125,7 @@ class Build(Case):
             self.assertEqual(content(made), content(path(data)))
 
     def test_what_is_packed_unpacks(self):
-        entries = parsed(f"filter {REST} sigma=zero alpha=0x7FF0000000000001", "state",
+        entries = parsed(FILTER.replace("direction_alpha=0.5", "direction_alpha=0x7FF0000000000001"), "state",
                          "position antenna=-0.0,nan,1e-320 noise=zero")
         self.assertEqual(sheet.unpack(sheet.pack(entries)), entries)
 
@@ -149,7 +150,7 @@ class Build(Case):
         by_three = [1, 1, 1, 2, 2, 2, 3, 3, 3, 4, 4, 4, 5, 5, 5, 6, 6, 6, 7, 7, 7]
         for text, diagonal in [("3", [3] * 21), ("diagonal:1,2,3,4,5,6,7", by_three),
                                (f"diagonal:{','.join(map(str, range(21)))}", range(21))]:
-            for word, rest in [("filter", f"{REST} alpha=zero"), ("start", f"{AT_REST} gravity=zero")]:
+            for word, rest in [("filter", f"{REST} {ALPHAS}"), ("start", f"{AT_REST} gravity=zero")]:
                 sigma = numbers(f"{word} {rest} sigma={text}")[33:474]
                 self.assertEqual(sigma, [x if i == j else 0 for i, x in enumerate(diagonal) for j in range(21)])
 
@@ -184,13 +185,22 @@ class Build(Case):
         self.bad("line 3: state has no part 'dt'; it has none", FILTER, "# a comment", "state dt=1")
         self.bad("line 1: position has no part 'sigma'; it has antenna, noise", "position sigma=1")
         self.bad("line 1: start has no part 'A'; it has attitude, velocity, position, gyro_bias, accel_bias, lever, "
-                 "mag, sigma, gravity, alpha", "start A=identity")
-        self.bad("line 1: 'alpha' is no part: NAME=NUMBERS with no space inside", "filter alpha")
-        self.bad("line 1: alpha is given twice", "filter alpha=1 alpha=1")
-        self.bad("line 1: filter lacks A, velocity, position and 6 more; a part may be zero", "filter")
-        self.bad("line 1: filter lacks alpha; a part may be zero", f"filter {REST} sigma=1")
+                 "mag, sigma, gravity, position_alpha, velocity_alpha, direction_alpha", "start A=identity")
+        self.bad("line 1: 'gravity' is no part: NAME=NUMBERS with no space inside", "filter gravity")
+        self.bad("line 1: gravity is given twice", "filter gravity=1,1,1 gravity=1,1,1")
+        self.bad("line 1: filter lacks A, velocity, position and 8 more; a part may be zero", "filter")
+        self.bad("line 1: filter lacks position_alpha, velocity_alpha, direction_alpha; a part may be zero",
+                 f"filter {REST} sigma=1")
+        self.bad("line 1: filter lacks direction_alpha; a part may be zero", FILTER.replace("direction_alpha=0.5", ""))
         self.bad("line 1: start lacks sigma, gravity; a part may be zero", f"start {AT_REST}")
         self.bad("line 2: position lacks antenna, noise; a part may be zero", FILTER, "position")
+
+    def test_one_alpha(self):
+        """A line of version 0.6.0 is told how to upgrade it; alpha is no part of another entry, as before."""
+        for line in (f"filter {REST} sigma=1 alpha=0.5", f"start {AT_REST} sigma=1 gravity=zero alpha=0.5"):
+            self.bad(f"line 1: {line.split()[0]} has one alpha, as up to version 0.6.0; to upgrade it, give its alpha "
+                     "as each of position_alpha, velocity_alpha, direction_alpha", line)
+        self.bad("line 2: position has no part 'alpha'; it has antenna, noise", FILTER, "position alpha=0.5")
 
     def bad_part(self, message, item):
         """A position call with this part, then the others."""
@@ -215,7 +225,7 @@ class Build(Case):
         self.bad_part("antenna is not square", "antenna=identity")
         self.bad_part("antenna is not square", "antenna=diagonal:1,1,1")
         self.bad_part("only the sigma of a start may be by deviations", "noise=deviations:1,1,1")
-        rest = f"{REST} alpha=0.5"
+        rest = f"{REST} {ALPHAS}"
         self.bad("line 1: sigma: numbers wanted 441 or 1, given 21", f"filter {rest} sigma={','.join(['1'] * 21)}")
         self.bad("line 1: diagonal of sigma: numbers wanted 21 or 7, given 3", f"filter {rest} sigma=diagonal:1,1,1")
         self.bad("line 1: only the sigma of a start may be by deviations",
@@ -235,10 +245,13 @@ class Start(Case):
             self.assertEqual(values[:15], given["attitude"] + given["velocity"] + given["position"])
             self.assertEqual([f"{value:016X}" for value in values[15:33]], bits.split())
             self.assertEqual(values[33:474], [sheet.bits("2") if i % 22 == 0 else 0 for i in range(441)])
-            self.assertEqual(values[474:], [sheet.bits(x) for x in ("0", "-0.0", "9.81", "0.5")])
+            self.assertEqual(values[474:], [sheet.bits(x) for x in ("0", "-0.0", "9.81", "0.5", "0.5", "0.5")])
 
-    def test_alpha(self):
-        self.assertEqual(numbers(f"start {AT_REST} sigma=1 gravity=zero alpha=0.25")[477], 0.25)
+    def test_alphas(self):
+        """Each may be given, and left out."""
+        for i, name in enumerate(["position", "velocity", "direction"]):
+            alphas = numbers(f"start {AT_REST} sigma=1 gravity=zero {name}_alpha=0.25")[477:]
+            self.assertEqual(alphas, [0.25 if i == j else 0.5 for j in range(3)])
 
     def test_refused_starts(self):
         for change, why in [("velocity=0,inf,0", "2 blank (velocity is not finite)"),
@@ -247,7 +260,7 @@ class Start(Case):
                             ("sigma=deviations:1,1,1,1,1,inf,1", "2 blank (sigma is not finite)"),
                             ("sigma=deviations:1,1,1,1,1,1e200,1", "2 blank (sigma is not finite)"),
                             ("gravity=0,0,-inf", "2 blank (gravity is not finite)"),
-                            ("alpha=nan", "2 blank (alpha is not finite)"),
+                            ("velocity_alpha=nan", "2 blank (velocity_alpha is not finite)"),
                             ("velocity=1e200,0,0 gyro_bias=0,1e200,0", "5 range (gamma is not finite)"),
                             ("attitude=diagonal:1e200,1,1 lever=1e200,0,0", "5 range (delta is not finite)"),
                             ("attitude=diagonal:1e200,1,1 mag=diagonal:1e200,1,1", "5 range (E is not finite)")]:
@@ -377,7 +390,9 @@ filter
   E                  1 0 0 0 1 0 0 0 1
   diagonal of sigma  0 0 0 0 0 0 0 0 0 0 0 0 0 0 0 0 0 0 0 0 0
   gravity            0 0 0
-  alpha              0.5
+  position_alpha     0.5
+  velocity_alpha     0.5
+  direction_alpha    0.5
 
 entry  call      answer           numbers
 1      position  NIS 0            antenna 0 0 0; noise 1 0 0 0 1 0 0 0 1
@@ -401,7 +416,7 @@ expected: about, where the filter is consistent; general: 3 where it measures th
                                       "2      position          antenna 0 0 0; noise 1 0 0 0 1 0 0 0 1"])
 
     def test_a_filter_alone(self):
-        self.assertEqual(self.shown([FILTER])[-1], "  alpha              0.5")
+        self.assertEqual(self.shown([FILTER])[-1], "  direction_alpha    0.5")
 
     def test_the_diagonal_of_sigma(self):
         lines = self.shown([FILTER.replace("sigma=zero", f"sigma=diagonal:{','.join(map(str, range(21)))}")])
@@ -410,7 +425,7 @@ expected: about, where the filter is consistent; general: 3 where it measures th
     def test_a_hundred_columns(self):
         """Wide numbers are wrapped under their column, and none is lost."""
         wide = "-1.23457e-300"
-        long = f"filter {REST} alpha=1 sigma=diagonal:{','.join([wide] * 21)}"
+        long = f"filter {REST} {ALPHAS} sigma=diagonal:{','.join([wide] * 21)}"
         noise = ",".join([wide] * 9)
         general = f"general output={','.join([wide] * 63)} innovation=zero noise={noise}"
         lines = self.shown([long, general], ["refused 3"])
@@ -504,17 +519,33 @@ expected: about, where the filter is consistent; general: 3 where it measures th
         good = content(path("sheet/data/sheet.bin"))
         for data, message in [
             (good[:11], "too short for a sheet"),
-            (bytes(4) + good[4:], "0 entries in 4148 bytes"),
-            (b"\1\1" + good[2:], "257 entries in 4148 bytes"),
+            (bytes(4) + good[4:], "0 entries in 4164 bytes"),
+            (b"\1\1" + good[2:], "257 entries in 4164 bytes"),
             (b"\2" + good[1:16], "2 entries in 16 bytes"),
             (good[:12] + b"\10" + good[13:], "entry 1 has kind 8"),
             (good[:12] + b"\0" + good[13:], "entry 1 has kind 0"),
             (good[:4] + b"\1" + good[5:], "entry 0 has kind 1"),
-            (good[:16] + b"\x15" + good[17:], "entry 1 is at 3861 in place of 3860"),
-            (good + b"\0", "the last entry ends at 4148 of 4149 bytes"),
+            (good[:16] + b"\x25" + good[17:], "entry 1 is at 3877 in place of 3876"),
+            (good + b"\0", "the last entry ends at 4164 of 4165 bytes"),
             (good[:-1], "entry 3 goes past the end"),
         ]:
             self.told(message, sheet.unpack, data)
+
+    def test_filters_that_lack_alphas(self):
+        """Of a sheet from version 0.6.0, a filter alone or with calls, it is told what to do; of other lengths it is not."""
+        def with_filter(count, *calls):
+            kind, values = sheet.entry(FILTER)
+            return sheet.pack([(kind, values[:count]), *map(sheet.entry, calls)])
+
+        position = "position antenna=zero noise=1"
+        for calls in [(), ("state",), (position, "state", position)]:
+            for count in (478, 479):
+                self.told(f"the filter has {count} numbers in place of 480; one of 478 has one alpha, as up to version "
+                          "0.6.0: upgrade it (drifters_upgrade in C, Filter::upgrade in Rust)",
+                          sheet.unpack, with_filter(count, *calls))
+        for data in [with_filter(477), with_filter(480)[:-1], with_filter(478)[:-1], with_filter(478) + b"\0"]:
+            self.told("entry 0 goes past the end", sheet.unpack, data)
+        self.told("entry 1 is at 3844 in place of 3868", sheet.unpack, with_filter(477, position, position))
 
     def test_bad_answers(self):
         entries = parsed(FILTER, "position antenna=zero noise=1", "state", "position antenna=zero noise=1")
@@ -680,10 +711,10 @@ class Program(Case):
 
     def test_what_is_longest(self):
         """A sheet and a text of the most bytes are taken."""
-        text = "\n".join([FILTER, *[GENERAL] * 101, PROPAGATE, *["state"] * 10])
+        text = "\n".join([FILTER, *[GENERAL] * 101, PROPAGATE, *["state"] * 8])
         data = sheet.pack(parsed(text))
         self.assertEqual(len(data), 65532)
-        self.told("line 114: more than 65536 bytes of a sheet", parsed, text, "state")
+        self.told("line 112: more than 65536 bytes of a sheet", parsed, text, "state")
         made = self.file("sheet.bin")
         text = text.encode().ljust((1 << 20) - 1) + b"\n"
         self.assertEqual(run("build", "-", made, input=text), (0, b"", ""))

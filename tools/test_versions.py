@@ -10,8 +10,10 @@ import unittest
 from repository import ROOT, content, sheet
 
 HEADER = "include/drifters_eqf.h"
-# The runs whose places have names. The kind `general` is named by its function, update. COMPASSES is of no kind.
-RUNS = ["FILTER", "STATE", "START", "PROPAGATE", "POSITION", "VELOCITY", "DIRECTION", "UPDATE", "SCALAR", "COMPASSES"]
+# The runs whose places have names. The kind `general` is named by its function, update. COMPASSES, and ONE_ALPHA, a
+# filter with one alpha, are of no kind.
+RUNS = ["FILTER", "STATE", "START", "PROPAGATE", "POSITION", "VELOCITY", "DIRECTION", "UPDATE", "SCALAR", "COMPASSES",
+        "ONE_ALPHA"]
 
 
 def evaluated(expression, value_of):
@@ -175,6 +177,14 @@ class Places(unittest.TestCase):
         self.assertEqual(self.named("COUNTS"), places("COUNTS", {"tried": 1, "chosen": 1}))
         self.assertEqual(self.header["NONE_CHOSEN"], self.header["MOST_READINGS"])
 
+    def test_one_alpha(self):
+        """A filter with one alpha has it in place of the three; its other places have the names of a filter's."""
+        others = {name: size for name, size in sizes(sheet.KINDS[0][1]).items() if name not in sheet.ALPHAS}
+        expected = places("ONE_ALPHA", {"others": sum(others.values()), "alpha": 1})
+        del expected["ONE_ALPHA_OTHERS"]
+        self.assertEqual(self.named("ONE_ALPHA"), expected)
+        self.assertEqual([*others, *sheet.ALPHAS], list(sheet.KINDS[0][1]))
+
     def test_limits_of_a_sheet(self):
         self.assertEqual(self.header["SHEET_ENTRIES"], sheet.MOST_ENTRIES)
         self.assertEqual(self.header["SHEET_BYTES"], sheet.MOST_BYTES)
@@ -182,8 +192,8 @@ class Places(unittest.TestCase):
     def test_manual(self):
         """The manual's tables name a constant for each part of a run, with its place."""
         rows = re.findall(r"^\| (\d+)[^|]*\|[^|]*\|[^|]*\| `DRIFTERS_(\w+)` \|$", content("docs/MANUAL.md"), re.MULTILINE)
-        expected = [(str(value), name) for name, value in self.header.items()
-                    if name.split("_")[0] in [*RUNS, "COUNTS", "COORDINATE"] and not name.endswith("_LENGTH")]
+        expected = [(str(value), name) for run in [*RUNS, "COUNTS", "COORDINATE"]
+                    for name, value in self.named(run).items() if not name.endswith("_LENGTH")]
         self.assertEqual(sorted(rows), sorted(expected))
 
     def test_manual_on_several_compasses(self):
@@ -222,7 +232,7 @@ class Declarations(unittest.TestCase):
 
         expected = [text for text in declarations(content(HEADER)) if "sin_cos" not in text]
         self.assertEqual(declarations(content("docs/MANUAL.md")), expected)
-        self.assertEqual(len(expected), 10)
+        self.assertEqual(len(expected), 12)
 
 
 class Refusals(unittest.TestCase):
@@ -236,8 +246,8 @@ class Refusals(unittest.TestCase):
         self.assertEqual({name: name.lower() for name in self.meanings}, header_refusals("drifters_code_word"))
 
     def of_calls(self):
-        """The refusals that a call of a sheet can give: a sheet cannot hold a wrong length, and is no call itself."""
-        left_out = ("REFUSED_LENGTH", "REFUSED_SHEET")
+        """The refusals that a call of a sheet can give: it holds no wrong length and no downgrade, and is no call itself."""
+        left_out = ("REFUSED_LENGTH", "REFUSED_SHEET", "REFUSED_UNEQUAL")
         return {number: name for number, name in self.numbers.items() if name not in left_out}
 
     def test_sheet(self):

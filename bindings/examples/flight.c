@@ -1,5 +1,5 @@
-/* A short flight: start, a propagation, each update, a refused update, the estimate, and a call sheet. flight.rs is the
- * same in Rust. */
+/* A short flight: start, a propagation, each update, a change to one alpha and back, a refused update, the estimate, and
+ * a call sheet. flight.rs is the same in Rust. */
 #include <inttypes.h>
 #include <stdio.h>
 #include <stdlib.h>
@@ -62,8 +62,8 @@ static void print_update(const char *name, uint32_t code, double nis)
     }
 }
 
-/* Level and at rest at the origin, with some doubt in every direction. Alpha is 0.5 after a start, too much for most
- * flights: docs/MANUAL.md says why. */
+/* Level and at rest at the origin, with some doubt in every direction. Each alpha is 0.5 after a start, too much for
+ * most flights: docs/MANUAL.md says why. */
 static void start(double *filter)
 {
     double numbers[DRIFTERS_START_LENGTH] = {0};
@@ -77,7 +77,9 @@ static void start(double *filter)
     first_sigma(numbers + DRIFTERS_START_SIGMA, state, deviations);
     vector(numbers + DRIFTERS_START_GRAVITY, 0.0, 0.0, 9.81);
     need("start", drifters_start(filter, DRIFTERS_FILTER_LENGTH, numbers, DRIFTERS_START_LENGTH));
-    filter[DRIFTERS_FILTER_ALPHA] = 0.01;
+    filter[DRIFTERS_FILTER_POSITION_ALPHA] = 0.01;
+    filter[DRIFTERS_FILTER_VELOCITY_ALPHA] = 0.01;
+    filter[DRIFTERS_FILTER_DIRECTION_ALPHA] = 0.01;
     printf("start ok\n");
 }
 
@@ -211,6 +213,24 @@ static void update_compasses(double *filter)
     }
 }
 
+static void print_change(const double *before, const double *after)
+{
+    printf("filter %s\n", memcmp(before, after, DRIFTERS_FILTER_LENGTH * sizeof *before) == 0 ? "unchanged" : "changed");
+}
+
+/* To a filter with one alpha, as version 0.6.0 takes it, and back. The alphas are equal, so nothing is lost. */
+static void change_over(const double *filter)
+{
+    double one_alpha[DRIFTERS_ONE_ALPHA_LENGTH];
+    double again[DRIFTERS_FILTER_LENGTH];
+
+    need("downgrade", drifters_downgrade(filter, DRIFTERS_FILTER_LENGTH, one_alpha, DRIFTERS_ONE_ALPHA_LENGTH));
+    printf("downgrade ok\n");
+    need("upgrade", drifters_upgrade(one_alpha, DRIFTERS_ONE_ALPHA_LENGTH, again, DRIFTERS_FILTER_LENGTH));
+    printf("upgrade ok\n");
+    print_change(filter, again);
+}
+
 /* A variance below 0: no such matrix has a Cholesky factor. The refused update changes nothing. */
 static void refused_update(double *filter)
 {
@@ -218,7 +238,7 @@ static void refused_update(double *filter)
 
     memcpy(before, filter, sizeof before);
     update_position(filter, -1.0);
-    printf("filter %s\n", memcmp(before, filter, sizeof before) == 0 ? "unchanged" : "changed");
+    print_change(before, filter);
 }
 
 static void print_state(const double *filter)
@@ -256,7 +276,7 @@ static uint8_t *put_position(uint8_t *at, double x, double variance)
     return put_numbers(at, numbers, DRIFTERS_POSITION_LENGTH);
 }
 
-/* Three position calls on a filter with identity A and E and alpha 0.5. */
+/* Three position calls on a filter with identity A and E, and each alpha 0.5. */
 static void make_sheet(uint8_t *sheet)
 {
     double filter[DRIFTERS_FILTER_LENGTH] = {0};
@@ -270,7 +290,9 @@ static void make_sheet(uint8_t *sheet)
     }
     diagonal(filter + DRIFTERS_FILTER_A, 1.0);
     diagonal(filter + DRIFTERS_FILTER_E, 1.0);
-    filter[DRIFTERS_FILTER_ALPHA] = 0.5;
+    filter[DRIFTERS_FILTER_POSITION_ALPHA] = 0.5;
+    filter[DRIFTERS_FILTER_VELOCITY_ALPHA] = 0.5;
+    filter[DRIFTERS_FILTER_DIRECTION_ALPHA] = 0.5;
     at = put_numbers(at, filter, DRIFTERS_FILTER_LENGTH);
     at = put_position(at, 0.0, 1.0);
     at = put_position(at, 1.0, 1.0);
@@ -301,6 +323,7 @@ int main(void)
     update(filter);
     update_scalar(filter);
     update_compasses(filter);
+    change_over(filter);
     refused_update(filter);
     print_state(filter);
     run_sheet();

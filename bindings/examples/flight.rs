@@ -1,14 +1,14 @@
-//! A short flight: start, a propagation, each update, a refused update, the estimate, and a call sheet. flight.c is
-//! the same in C.
+//! A short flight: start, a propagation, each update, a change to one alpha and back, a refused update, the estimate,
+//! and a call sheet. flight.c is the same in C.
 use std::array::from_fn;
 use std::process::ExitCode;
 
 use drifters_port::places::coordinate;
 use drifters_port::{diagonal, kind, run_sheet_into};
+use drifters_port::{Alphas, CompassesAnswer, Filter, Refusal, State};
 use drifters_port::{
     Compasses, Densities, Deviations, Direction, Fix, General, Imu, Scalar, Start, VelocityFix,
 };
-use drifters_port::{CompassesAnswer, Filter, Refusal, State};
 use drifters_port::{FILTER_LENGTH, MOST_READINGS, POSITION_LENGTH, STATES, TEXT_LENGTH};
 
 /// A number by its bits and in decimal.
@@ -26,8 +26,8 @@ fn print_update(name: &str, answer: Result<f64, Refusal>) {
     }
 }
 
-/// Level and at rest at the origin, with some doubt in every direction. Alpha is 0.5 after a start, too much for most
-/// flights: docs/MANUAL.md says why.
+/// Level and at rest at the origin, with some doubt in every direction. Each alpha is 0.5 after a start, too much for
+/// most flights: docs/MANUAL.md says why.
 fn start() -> Result<Filter, Refusal> {
     let state = State::default();
     let deviations = Deviations {
@@ -45,7 +45,7 @@ fn start() -> Result<Filter, Refusal> {
         gravity: [0.0, 0.0, 9.81],
     };
     let mut filter = Filter::start(&start.numbers())?;
-    filter.set_alpha(0.01);
+    filter.set_alphas(Alphas::all(0.01));
     println!("start ok");
     Ok(filter)
 }
@@ -154,16 +154,30 @@ fn update_compasses(filter: &mut Filter) -> Result<(), Refusal> {
     Ok(())
 }
 
-/// A variance below 0: no such matrix has a Cholesky factor. The refused update changes nothing.
-fn refused_update(filter: &mut Filter) {
-    let before = filter.clone();
-    update_position(filter, -1.0);
-    let word = if *filter == before {
+fn print_change(before: &Filter, after: &Filter) {
+    let word = if after == before {
         "unchanged"
     } else {
         "changed"
     };
     println!("filter {word}");
+}
+
+/// To a filter with one alpha, as version 0.6.0 takes it, and back. The alphas are equal, so nothing is lost.
+fn change_over(filter: &Filter) -> Result<(), Refusal> {
+    let one_alpha = filter.downgrade()?;
+    println!("downgrade ok");
+    let again = Filter::upgrade(&one_alpha)?;
+    println!("upgrade ok");
+    print_change(filter, &again);
+    Ok(())
+}
+
+/// A variance below 0: no such matrix has a Cholesky factor. The refused update changes nothing.
+fn refused_update(filter: &mut Filter) {
+    let before = filter.clone();
+    update_position(filter, -1.0);
+    print_change(&before, filter);
 }
 
 fn print_state(filter: &Filter) -> Result<(), Refusal> {
@@ -236,6 +250,7 @@ fn flight() -> Result<(), Refusal> {
     update(&mut filter);
     update_scalar(&mut filter);
     update_compasses(&mut filter)?;
+    change_over(&filter)?;
     refused_update(&mut filter);
     print_state(&filter)?;
     run_sheet()

@@ -10,6 +10,18 @@ mod c {
             numbers: *const f64,
             numbers_length: usize,
         ) -> u32;
+        pub fn drifters_upgrade(
+            one_alpha: *const f64,
+            one_alpha_length: usize,
+            filter: *mut f64,
+            filter_length: usize,
+        ) -> u32;
+        pub fn drifters_downgrade(
+            filter: *const f64,
+            filter_length: usize,
+            one_alpha: *mut f64,
+            one_alpha_length: usize,
+        ) -> u32;
         pub fn drifters_propagate(
             filter: *mut f64,
             filter_length: usize,
@@ -98,6 +110,28 @@ pub fn start(filter: &mut [f64], numbers: &[f64]) -> u32 {
             filter.len(),
             numbers.as_ptr(),
             numbers.len(),
+        )
+    }
+}
+
+pub fn upgrade(one_alpha: &[f64], filter: &mut [f64]) -> u32 {
+    unsafe {
+        c::drifters_upgrade(
+            one_alpha.as_ptr(),
+            one_alpha.len(),
+            filter.as_mut_ptr(),
+            filter.len(),
+        )
+    }
+}
+
+pub fn downgrade(filter: &[f64], one_alpha: &mut [f64]) -> u32 {
+    unsafe {
+        c::drifters_downgrade(
+            filter.as_ptr(),
+            filter.len(),
+            one_alpha.as_mut_ptr(),
+            one_alpha.len(),
         )
     }
 }

@@ -5,12 +5,12 @@ use crate::places::filter;
 use crate::refusal::checked;
 use crate::runs::{matrix, vector};
 use crate::{
-    CompassesAnswer, Refusal, State, COMPASSES_LENGTH, DIRECTION_LENGTH, FILTER_LENGTH,
-    POSITION_LENGTH, PROPAGATE_LENGTH, READING_LENGTH, SCALAR_LENGTH, START_LENGTH, STATES,
-    STATE_LENGTH, UPDATE_LENGTH, VELOCITY_LENGTH,
+    Alphas, CompassesAnswer, Refusal, State, COMPASSES_LENGTH, DIRECTION_LENGTH, FILTER_LENGTH,
+    ONE_ALPHA_LENGTH, POSITION_LENGTH, PROPAGATE_LENGTH, READING_LENGTH, SCALAR_LENGTH,
+    START_LENGTH, STATES, STATE_LENGTH, UPDATE_LENGTH, VELOCITY_LENGTH,
 };
 
-/// A filter: its 478 numbers, as [`places::filter`](crate::places::filter) has them.
+/// A filter: its 480 numbers, as [`places::filter`](crate::places::filter) has them.
 ///
 /// Any numbers may stand in it: a call refuses those that are not finite. A refused call leaves the filter as it was.
 ///
@@ -41,7 +41,8 @@ pub struct Filter(pub [f64; FILTER_LENGTH]);
 
 /// The calls.
 impl Filter {
-    /// A filter for a state, a covariance and gravity: [`Start`](crate::Start). Alpha is 0.5. The original's `new`.
+    /// A filter for a state, a covariance and gravity: [`Start`](crate::Start). Each alpha is 0.5. The original's
+    /// `new`.
     ///
     /// ```
     /// use drifters_port::{Deviations, Filter, Start, State};
@@ -61,6 +62,65 @@ impl Filter {
         let mut filter = Filter([0.0; FILTER_LENGTH]);
         checked(exported::start(&mut filter.0, numbers))?;
         Ok(filter)
+    }
+
+    /// A filter with one alpha, as versions up to 0.6.0 have it, changed over with no new start: each alpha is the one,
+    /// the other numbers stay. As long as nobody else writes an alpha, every later call answers as version 0.6.0 does
+    /// on the filter with one alpha, to the last bit.
+    ///
+    /// ```
+    /// use drifters_port::{diagonal, Alphas, Filter, Refusal, Start, State, ONE_ALPHA_LENGTH};
+    ///
+    /// let start = Start { state: State::default(), sigma: diagonal([0.01; 21]), gravity: [0.0, 0.0, 9.81] };
+    /// // as it comes from a mount with version 0.6.0: 478 numbers
+    /// let one_alpha: [f64; ONE_ALPHA_LENGTH] = Filter::start(&start.numbers())?.downgrade()?;
+    /// let mut filter = Filter::upgrade(&one_alpha)?;
+    /// assert_eq!(filter.alphas(), Alphas::all(0.5));
+    /// assert_eq!(filter.downgrade(), Ok(one_alpha));
+    /// // with an alpha of its own for the compass there is no way back
+    /// filter.set_alphas(Alphas { direction: 0.1, ..filter.alphas() });
+    /// assert_eq!(filter.downgrade(), Err(Refusal::Unequal));
+    /// # Ok::<(), drifters_port::Refusal>(())
+    /// ```
+    ///
+    /// A number that is not finite is refused by [`Refusal::Blank`].
+    pub fn upgrade(one_alpha: &[f64; ONE_ALPHA_LENGTH]) -> Result<Filter, Refusal> {
+        Filter::upgrade_slice(one_alpha)
+    }
+
+    /// [`upgrade`](Filter::upgrade) from a slice of 478 numbers.
+    pub fn upgrade_slice(one_alpha: &[f64]) -> Result<Filter, Refusal> {
+        let mut filter = Filter([0.0; FILTER_LENGTH]);
+        checked(exported::upgrade(one_alpha, &mut filter.0))?;
+        Ok(filter)
+    }
+
+    /// The numbers of a filter with one alpha, where the three are equal: [`upgrade`](Filter::upgrade) gives this filter
+    /// for them.
+    ///
+    /// A number that is not finite is refused by [`Refusal::Blank`], and then alphas that have not all the same bits by
+    /// [`Refusal::Unequal`]: +0 and -0 are unequal.
+    ///
+    /// ```
+    /// use drifters_port::{diagonal, Alphas, Filter, Refusal, Start, State};
+    ///
+    /// let start = Start { state: State::default(), sigma: diagonal([0.01; 21]), gravity: [0.0, 0.0, 9.81] };
+    /// let mut filter = Filter::start(&start.numbers())?;
+    /// filter.set_alphas(Alphas { velocity: -0.0, ..Alphas::all(0.0) });
+    /// assert_eq!(filter.downgrade(), Err(Refusal::Unequal));
+    /// filter.set_alphas(Alphas::all(0.0));
+    /// assert_eq!(filter.downgrade()?[477], 0.0);
+    /// # Ok::<(), drifters_port::Refusal>(())
+    /// ```
+    pub fn downgrade(&self) -> Result<[f64; ONE_ALPHA_LENGTH], Refusal> {
+        let mut one_alpha = [0.0; ONE_ALPHA_LENGTH];
+        self.downgrade_slice(&mut one_alpha)?;
+        Ok(one_alpha)
+    }
+
+    /// [`downgrade`](Filter::downgrade) to a slice of 478 numbers.
+    pub fn downgrade_slice(&self, one_alpha: &mut [f64]) -> Result<(), Refusal> {
+        checked(exported::downgrade(&self.0, one_alpha))
     }
 
     /// Carries the filter over a sample of the inertial sensor: [`Imu`](crate::Imu) and
@@ -354,17 +414,19 @@ impl Filter {
         vector(&self.0, filter::GRAVITY)
     }
 
-    /// Alpha, 0.5 after a start.
-    pub fn alpha(&self) -> f64 {
-        self.0[filter::ALPHA]
+    /// The alphas, each 0.5 after a start.
+    pub fn alphas(&self) -> Alphas {
+        Alphas {
+            position: self.0[filter::POSITION_ALPHA],
+            velocity: self.0[filter::VELOCITY_ALPHA],
+            direction: self.0[filter::DIRECTION_ALPHA],
+        }
     }
 
-    /// Sets alpha, which says how an update takes a surprising measurement: at 0 with half its plain weight or more,
-    /// at 1 with the least. docs/MANUAL.md has more.
-    ///
-    /// Any number is stored. A call takes one below 0 as 0 and one above 1 as 1, and refuses one that is not finite
-    /// by [`Refusal::Blank`].
-    pub fn set_alpha(&mut self, alpha: f64) {
-        self.0[filter::ALPHA] = alpha;
+    /// Sets the alphas. No call on the filter changes them.
+    pub fn set_alphas(&mut self, alphas: Alphas) {
+        self.0[filter::POSITION_ALPHA] = alphas.position;
+        self.0[filter::VELOCITY_ALPHA] = alphas.velocity;
+        self.0[filter::DIRECTION_ALPHA] = alphas.direction;
     }
 }

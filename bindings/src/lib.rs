@@ -5,7 +5,8 @@
 //!
 //! ```
 //! use drifters_port::places::coordinate;
-//! use drifters_port::{diagonal, Densities, Deviations, Direction, Filter, Fix, Imu, Scalar, Start, State, VelocityFix};
+//! use drifters_port::{diagonal, Alphas, Densities, Deviations, Filter, Start, State};
+//! use drifters_port::{Direction, Fix, Imu, Scalar, VelocityFix};
 //!
 //! // the first estimate, and how far it may be off
 //! let state = State { position: [0.0, 0.0, -3000.0], lever: [0.4, 0.0, -1.2], ..State::default() };
@@ -20,8 +21,8 @@
 //! };
 //! let start = Start { state, sigma: deviations.sigma(&state), gravity: [0.0, 0.0, 9.81] };
 //! let mut filter = Filter::start(&start.numbers())?;
-//! // a start sets alpha to 0.5, which can keep a filter from converging: the manual says why
-//! filter.set_alpha(0.01);
+//! // a start sets each alpha to 0.5, which can keep a filter from converging: the manual says why
+//! filter.set_alphas(Alphas::all(0.01));
 //!
 //! // a second of the inertial sensor at 100 Hz, turning at 0.02 rad/s about the vertical
 //! let densities = Densities {
@@ -96,6 +97,7 @@
 #[cfg(any(feature = "std", test))]
 extern crate std;
 
+mod alphas;
 mod compasses;
 mod deviations;
 mod exported;
@@ -117,6 +119,7 @@ mod tests;
 #[doc = include_str!("../../docs/MANUAL.md")]
 struct Manual;
 
+pub use alphas::Alphas;
 pub use compasses::CompassesAnswer;
 pub use deviations::Deviations;
 pub use filter::Filter;
@@ -137,7 +140,9 @@ pub const VERSION: &str = env!("CARGO_PKG_VERSION");
 pub const STATES: usize = 21;
 
 /// How many numbers a filter has.
-pub const FILTER_LENGTH: usize = places::filter::ALPHA + 1;
+pub const FILTER_LENGTH: usize = places::filter::DIRECTION_ALPHA + 1;
+/// How many numbers a filter with one alpha has, as versions up to 0.6.0 have it.
+pub const ONE_ALPHA_LENGTH: usize = places::one_alpha::ALPHA + 1;
 /// How many numbers a state has.
 pub const STATE_LENGTH: usize = places::state::MAG + 9;
 /// How many numbers a start takes.

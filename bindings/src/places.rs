@@ -23,8 +23,21 @@ pub mod filter {
     pub const SIGMA: usize = E + 9;
     /// Gravity.
     pub const GRAVITY: usize = SIGMA + STATES * STATES;
-    /// Alpha.
-    pub const ALPHA: usize = GRAVITY + 3;
+    /// Alpha for positions, one number.
+    pub const POSITION_ALPHA: usize = GRAVITY + 3;
+    /// Alpha for velocities, one number.
+    pub const VELOCITY_ALPHA: usize = POSITION_ALPHA + 1;
+    /// Alpha for directions, one number.
+    pub const DIRECTION_ALPHA: usize = VELOCITY_ALPHA + 1;
+}
+
+/// The part in which a filter with one alpha, [`ONE_ALPHA_LENGTH`](crate::ONE_ALPHA_LENGTH) numbers, differs from a
+/// [`filter`].
+pub mod one_alpha {
+    use super::filter;
+
+    /// Alpha, one number.
+    pub const ALPHA: usize = filter::GRAVITY + 3;
 }
 
 /// The parts of a state, [`STATE_LENGTH`](crate::STATE_LENGTH) numbers.

@@ -30,6 +30,9 @@ pub enum Refusal {
     /// A direction's measured vector or north has norm 0. Only an update by direction gives it: one by several
     /// compasses passes over such a reading. [`kind::SCALAR`](crate::kind::SCALAR), which is 7 too, is something else.
     Null = 7,
+    /// The alphas of a filter that is to have one have not all the same bits: +0 and -0 are unequal. Only
+    /// [`Filter::downgrade`](crate::Filter::downgrade) gives it.
+    Unequal = 8,
 }
 
 impl Refusal {
@@ -43,11 +46,12 @@ impl Refusal {
             5 => Some(Refusal::Range),
             6 => Some(Refusal::Sheet),
             7 => Some(Refusal::Null),
+            8 => Some(Refusal::Unequal),
             _ => None,
         }
     }
 
-    /// The number, 1 to 7.
+    /// The number, 1 to 8.
     pub fn number(self) -> u32 {
         self as u32
     }
@@ -62,6 +66,7 @@ impl Refusal {
             Refusal::Range => "range",
             Refusal::Sheet => "sheet",
             Refusal::Null => "null",
+            Refusal::Unequal => "unequal",
         }
     }
 
@@ -74,7 +79,7 @@ impl Refusal {
             }
             Refusal::Blank => {
                 "a number of the filter or of the call is infinite or not a number; \
-                 check the call's numbers and alpha"
+                 check the call's numbers and the alphas"
             }
             Refusal::Turn => {
                 "one step would turn by more than 8 rad, or by no number; \
@@ -91,6 +96,10 @@ impl Refusal {
             Refusal::Null => {
                 "a direction's measured vector or north has norm 0; \
                  check that the compass is on and that north is set"
+            }
+            Refusal::Unequal => {
+                "the filter's alphas have not all the same bits; \
+                 set them to one number, of one sign where it is 0"
             }
         }
     }

@@ -1,7 +1,9 @@
 //! The crate, tested with the library. docs/MANUAL.md has the layouts, frames and signs that are expected here.
 use crate::places::filter;
 use crate::*;
+use std::vec::Vec;
 
+mod alphas;
 mod calls;
 mod compasses;
 mod deviations;
@@ -9,21 +11,23 @@ mod directions;
 mod good_compasses;
 mod inputs;
 mod lengths;
+mod mixed;
 mod parts;
 mod refusals;
 mod scalar_updates;
 mod scalars;
 mod sheets;
 mod signs;
+mod upgrade;
 
 const IDENTITY: [f64; 9] = [1.0, 0.0, 0.0, 0.0, 1.0, 0.0, 0.0, 0.0, 1.0];
 
-/// Identity A and E, alpha 0.5, all else zero.
+/// Identity A and E, each alpha 0.5, all else zero.
 fn whole_case() -> Filter {
     let mut run = [0.0; FILTER_LENGTH];
     run[filter::A..filter::VELOCITY].copy_from_slice(&IDENTITY);
     run[filter::E..filter::SIGMA].copy_from_slice(&IDENTITY);
-    run[filter::ALPHA] = 0.5;
+    run[filter::POSITION_ALPHA..].fill(0.5);
     Filter(run)
 }
 
@@ -34,6 +38,10 @@ fn position(x: f64, variance: f64) -> [f64; POSITION_LENGTH] {
         noise: diagonal([variance; 3]),
     };
     fix.numbers()
+}
+
+fn bits(numbers: &[f64]) -> Vec<u64> {
+    numbers.iter().map(|x| x.to_bits()).collect()
 }
 
 /// The rotation by a vector's norm about it, by Rodrigues' formula.

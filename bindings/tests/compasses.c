@@ -213,11 +213,13 @@ static void blanks(void)
         lent.field[i] = -infinity();
         refused(&lent, DRIFTERS_REFUSED_BLANK);
     }
-    prepare(&lent);
-    lent.filter[DRIFTERS_FILTER_ALPHA] = infinity() - infinity();
-    refused(&lent, DRIFTERS_REFUSED_BLANK);
-    lent.budget = 0;
-    refused(&lent, DRIFTERS_REFUSED_BLANK);
+    for (i = DRIFTERS_FILTER_POSITION_ALPHA; i <= DRIFTERS_FILTER_DIRECTION_ALPHA; i++) {
+        prepare(&lent);
+        lent.filter[i] = infinity() - infinity();
+        refused(&lent, DRIFTERS_REFUSED_BLANK);
+        lent.budget = 0;
+        refused(&lent, DRIFTERS_REFUSED_BLANK);
+    }
 }
 
 int main(void)
@@ -229,7 +231,7 @@ int main(void)
     out_of_range();
     nine();
     blanks();
-    /* 19 starts; 8 readings that are applied, with four checks each; none is 4 times, with two; 18 refused calls, with two;
+    /* 21 starts; 8 readings that are applied, with four checks each; none is 4 times, with two; 22 refused calls, with two;
      * nine */
-    return status_of("compasses", 19 + 8 * 4 + 4 * 2 + 18 * 2 + 2);
+    return status_of("compasses", 21 + 8 * 4 + 4 * 2 + 22 * 2 + 2);
 }

@@ -14,8 +14,12 @@ static void filter_places(void)
     CHECK(DRIFTERS_FILTER_E == 24);
     CHECK(DRIFTERS_FILTER_SIGMA == 33);
     CHECK(DRIFTERS_FILTER_GRAVITY == 474);
-    CHECK(DRIFTERS_FILTER_ALPHA == 477);
-    CHECK(DRIFTERS_FILTER_LENGTH == 478);
+    CHECK(DRIFTERS_FILTER_POSITION_ALPHA == 477);
+    CHECK(DRIFTERS_FILTER_VELOCITY_ALPHA == 478);
+    CHECK(DRIFTERS_FILTER_DIRECTION_ALPHA == 479);
+    CHECK(DRIFTERS_FILTER_LENGTH == 480);
+    CHECK(DRIFTERS_ONE_ALPHA_ALPHA == 477);
+    CHECK(DRIFTERS_ONE_ALPHA_LENGTH == 478);
 }
 
 static void state_and_start_places(void)
@@ -124,6 +128,7 @@ static void codes(void)
     CHECK(DRIFTERS_REFUSED_RANGE == 5);
     CHECK(DRIFTERS_REFUSED_SHEET == 6);
     CHECK(DRIFTERS_REFUSED_NULL == 7);
+    CHECK(DRIFTERS_REFUSED_UNEQUAL == 8);
 }
 
 /* The text is that of the three numbers. */
@@ -146,5 +151,5 @@ int main(void)
     sheets();
     codes();
     version();
-    return status_of("constants", 91);
+    return status_of("constants", 96);
 }

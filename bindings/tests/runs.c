@@ -1,20 +1,22 @@
-/* Runs of a wrong length, for every run of every function: null with length 0, one number too few, one too many. Each
- * is refused by code 1 and leaves the runs as they were; at the stated lengths the same call is accepted. */
+/* Runs of a wrong length, for every run of every function: null with length 0, one number too few, one too many, and
+ * where a filter is lent, that of the other filter, with one alpha or with an alpha for each sensor. Each is refused by
+ * code 1 and leaves the runs as they were; at the stated lengths the same call is accepted. */
 #include <string.h>
 
 #include "check.h"
 #include "drifters_eqf.h"
 
-/* The runs of a call, each with room for a number too many. What is written is a NIS, a state, or sine and cosine. Of
+/* The runs of a call, each with room for a wrong length. What is written is a NIS, a state, or sine and cosine. Of
  * several compasses, the numbers are north and noise. */
 #define MOST_READING_NUMBERS (DRIFTERS_MOST_READINGS * DRIFTERS_READING_LENGTH)
-enum { FILTER, NUMBERS, WRITTEN, READINGS, COUNTS, RUNS };
+enum { FILTER, NUMBERS, WRITTEN, READINGS, COUNTS, ONE_ALPHA, RUNS };
 struct lent {
     double filter[DRIFTERS_FILTER_LENGTH + 1];
     double numbers[DRIFTERS_START_LENGTH + 1];
     double written[DRIFTERS_STATE_LENGTH + 1];
     double readings[MOST_READING_NUMBERS + 1];
     size_t counts[DRIFTERS_COUNTS_LENGTH + 1];
+    double one_alpha[DRIFTERS_FILTER_LENGTH];
 };
 
 /* Pointers and lengths of a call's runs: of counts, or else of numbers. */
@@ -92,6 +94,16 @@ static uint32_t start(const struct run *run)
     return drifters_start(LENT(FILTER), LENT(NUMBERS));
 }
 
+static uint32_t upgrade(const struct run *run)
+{
+    return drifters_upgrade(LENT(ONE_ALPHA), LENT(FILTER));
+}
+
+static uint32_t downgrade(const struct run *run)
+{
+    return drifters_downgrade(LENT(FILTER), LENT(ONE_ALPHA));
+}
+
 static uint32_t propagate(const struct run *run)
 {
     return drifters_propagate(LENT(FILTER), LENT(NUMBERS));
@@ -146,27 +158,29 @@ struct function {
     size_t lengths[RUNS];
 };
 
-#define FUNCTIONS 10
+#define FUNCTIONS 12
 static const struct function functions[FUNCTIONS] = {
-    {"start", start, start_numbers, {DRIFTERS_FILTER_LENGTH, DRIFTERS_START_LENGTH, 0, 0, 0}},
-    {"propagate", propagate, propagate_numbers, {DRIFTERS_FILTER_LENGTH, DRIFTERS_PROPAGATE_LENGTH, 0, 0, 0}},
+    {"start", start, start_numbers, {DRIFTERS_FILTER_LENGTH, DRIFTERS_START_LENGTH, 0, 0, 0, 0}},
+    {"upgrade", upgrade, no_numbers, {DRIFTERS_FILTER_LENGTH, 0, 0, 0, 0, DRIFTERS_ONE_ALPHA_LENGTH}},
+    {"downgrade", downgrade, no_numbers, {DRIFTERS_FILTER_LENGTH, 0, 0, 0, 0, DRIFTERS_ONE_ALPHA_LENGTH}},
+    {"propagate", propagate, propagate_numbers, {DRIFTERS_FILTER_LENGTH, DRIFTERS_PROPAGATE_LENGTH, 0, 0, 0, 0}},
     {"position", position, position_numbers,
-     {DRIFTERS_FILTER_LENGTH, DRIFTERS_POSITION_LENGTH, DRIFTERS_NIS_LENGTH, 0, 0}},
+     {DRIFTERS_FILTER_LENGTH, DRIFTERS_POSITION_LENGTH, DRIFTERS_NIS_LENGTH, 0, 0, 0}},
     {"velocity", velocity, velocity_numbers,
-     {DRIFTERS_FILTER_LENGTH, DRIFTERS_VELOCITY_LENGTH, DRIFTERS_NIS_LENGTH, 0, 0}},
+     {DRIFTERS_FILTER_LENGTH, DRIFTERS_VELOCITY_LENGTH, DRIFTERS_NIS_LENGTH, 0, 0, 0}},
     {"direction", direction, direction_numbers,
-     {DRIFTERS_FILTER_LENGTH, DRIFTERS_DIRECTION_LENGTH, DRIFTERS_NIS_LENGTH, 0, 0}},
-    {"update", update, update_numbers, {DRIFTERS_FILTER_LENGTH, DRIFTERS_UPDATE_LENGTH, DRIFTERS_NIS_LENGTH, 0, 0}},
-    {"scalar", scalar, scalar_numbers, {DRIFTERS_FILTER_LENGTH, DRIFTERS_SCALAR_LENGTH, DRIFTERS_NIS_LENGTH, 0, 0}},
+     {DRIFTERS_FILTER_LENGTH, DRIFTERS_DIRECTION_LENGTH, DRIFTERS_NIS_LENGTH, 0, 0, 0}},
+    {"update", update, update_numbers, {DRIFTERS_FILTER_LENGTH, DRIFTERS_UPDATE_LENGTH, DRIFTERS_NIS_LENGTH, 0, 0, 0}},
+    {"scalar", scalar, scalar_numbers, {DRIFTERS_FILTER_LENGTH, DRIFTERS_SCALAR_LENGTH, DRIFTERS_NIS_LENGTH, 0, 0, 0}},
     {"compasses", compasses, compasses_numbers,
      {DRIFTERS_FILTER_LENGTH, DRIFTERS_COMPASSES_LENGTH, DRIFTERS_NIS_LENGTH, MOST_READING_NUMBERS,
-      DRIFTERS_COUNTS_LENGTH}},
-    {"nav_state", nav_state, no_numbers, {DRIFTERS_FILTER_LENGTH, 0, DRIFTERS_STATE_LENGTH, 0, 0}},
-    {"sin_cos", sin_cos, no_numbers, {0, 0, DRIFTERS_SIN_COS_LENGTH, 0, 0}},
+      DRIFTERS_COUNTS_LENGTH, 0}},
+    {"nav_state", nav_state, no_numbers, {DRIFTERS_FILTER_LENGTH, 0, DRIFTERS_STATE_LENGTH, 0, 0, 0}},
+    {"sin_cos", sin_cos, no_numbers, {0, 0, DRIFTERS_SIN_COS_LENGTH, 0, 0, 0}},
 };
 
-/* What is lent to a function at its stated lengths: a started filter, its numbers, readings that are ones, and sevens
- * where it writes. */
+/* What is lent to a function at its stated lengths: a started filter, its numbers, readings that are ones, a filter with
+ * one alpha that is zeros, and sevens where it writes. */
 static void prepare(const struct function *function, struct lent *lent, struct run *run)
 {
     size_t i;
@@ -187,6 +201,7 @@ static void prepare(const struct function *function, struct lent *lent, struct r
     run[WRITTEN].at = lent->written;
     run[READINGS].at = lent->readings;
     run[COUNTS].at = lent->counts;
+    run[ONE_ALPHA].at = lent->one_alpha;
     for (i = 0; i < RUNS; i++)
         run[i].length = function->lengths[i];
 }
@@ -213,6 +228,10 @@ static void wrong_lengths(const struct function *function, int i)
     refused(function, &lent, run, i);
     run[i].length = function->lengths[i] + 1;
     refused(function, &lent, run, i);
+    if (i == FILTER || i == ONE_ALPHA) {
+        run[i].length = i == FILTER ? DRIFTERS_ONE_ALPHA_LENGTH : DRIFTERS_FILTER_LENGTH;
+        refused(function, &lent, run, i);
+    }
     run[i].length = 0;
     run[i].at = NULL;
     refused(function, &lent, run, i);
@@ -220,7 +239,7 @@ static void wrong_lengths(const struct function *function, int i)
 
 static void all_null(const struct function *function)
 {
-    static const struct run null[RUNS] = {{NULL, 0}, {NULL, 0}, {NULL, 0}, {NULL, 0}, {NULL, 0}};
+    static const struct run null[RUNS] = {{NULL, 0}, {NULL, 0}, {NULL, 0}, {NULL, 0}, {NULL, 0}, {NULL, 0}};
 
     check(function->call(null) == DRIFTERS_REFUSED_LENGTH, function->name, __FILE__, __LINE__);
 }
@@ -304,6 +323,7 @@ int main(void)
     empty_sheet();
     sheet_lengths();
     numbers_only();
-    /* 27 runs, with a start and six checks each; 10 functions with a start and two checks each; the rest */
-    return status_of("runs", 27 * 7 + FUNCTIONS * 3 + 5 + 7 + 3);
+    /* 31 runs, with a start and six checks each; 13 of them are filters, with two more; 12 functions with a start and
+     * two checks each; the rest */
+    return status_of("runs", 31 * 7 + 13 * 2 + FUNCTIONS * 3 + 5 + 7 + 3);
 }

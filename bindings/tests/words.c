@@ -5,14 +5,15 @@
 #include "drifters_eqf.h"
 #include "words_again.h"
 
-#define CODES 8 /* 0 to 7 */
+#define CODES 9 /* 0 to 8 */
 
 /* 32 bits set, and the first number that is no code. */
 static const uint32_t unknown[2] = {0xFFFFFFFFu, CODES};
 
 static void words(void)
 {
-    static const char *const expected[CODES] = {"ok", "length", "blank", "turn", "pivot", "range", "sheet", "null"};
+    static const char *const expected[CODES] = {"ok", "length", "blank", "turn", "pivot", "range", "sheet", "null",
+                                                "unequal"};
     uint32_t code;
 
     for (code = 0; code < CODES; code++)
@@ -61,5 +62,5 @@ int main(void)
     meanings();
     unknown_codes();
     other_file();
-    return status_of("words", 8 + 8 * 2 + 28 + 4 + 8 + 9 * 2);
+    return status_of("words", 9 + 9 * 2 + 36 + 4 + 9 + 10 * 2);
 }

@@ -5,7 +5,7 @@ use crate::vector::{
     angle_of, cross, difference, norm, product, rotate, rotation, sum, transpose, Matrix, Vector,
 };
 use drifters_port::{
-    diagonal, Densities, Deviations, Direction, Filter, Fix, Imu, Refusal, Start, State,
+    diagonal, Alphas, Densities, Deviations, Direction, Filter, Fix, Imu, Refusal, Start, State,
     VelocityFix, STATES,
 };
 use std::array::from_fn;
@@ -71,7 +71,7 @@ pub struct Case {
     pub first_sigma: FirstSigma,
     /// Where the flight begins.
     pub from: Vector,
-    /// In the first minute, and after it.
+    /// Of each sensor, in the first minute, and after it.
     pub alpha: f64,
     pub alpha_later: f64,
     pub fault: bool,
@@ -190,7 +190,7 @@ fn started(case: Case, state: State) -> Result<Filter, Refusal> {
         }
         .numbers(),
     )?;
-    filter.set_alpha(case.alpha);
+    filter.set_alphas(Alphas::all(case.alpha));
     Ok(filter)
 }
 
@@ -284,7 +284,7 @@ impl Flight {
         self.propagate(step)?;
         self.update(step, fault)?;
         if step == FIRST_MINUTE {
-            self.filter.set_alpha(self.case.alpha_later);
+            self.filter.set_alphas(Alphas::all(self.case.alpha_later));
         }
         if fault {
             self.position_error_in_fault =

@@ -149,15 +149,28 @@ fn slices_of_another_length_are_refused() {
     }
 }
 
-/// A filter of another length, which the crate's types do not have.
+/// A filter of another length, which the crate's types do not have: one with one alpha, and one number too few or too
+/// many.
 #[test]
 fn filters_of_another_length_are_refused() {
-    for n in [FILTER_LENGTH - 1, FILTER_LENGTH + 1] {
-        let mut run = vec![1.0; n];
-        assert_eq!(exported::start(&mut run, &[0.0; START_LENGTH]), 1);
-        assert_eq!(exported::propagate(&mut run, &[0.0; PROPAGATE_LENGTH]), 1);
-        assert_eq!(exported::nav_state(&run, &mut [0.0; STATE_LENGTH]), 1);
-        assert!(run.iter().all(|&x| x == 1.0));
+    let start = Start {
+        state: moving(),
+        sigma: diagonal([0.02; STATES]),
+        gravity: [0.0, 0.0, 9.81],
+    };
+    let filter = Filter::start(&start.numbers()).unwrap();
+    for n in [ONE_ALPHA_LENGTH, FILTER_LENGTH - 1, FILTER_LENGTH + 1] {
+        let mut run = filter.0.to_vec();
+        run.resize(n, 0.5);
+        let before = run.clone();
+        assert_eq!(exported::start(&mut run, &start.numbers()), 1);
+        for call in mixed::calls(0.7) {
+            let (code, written) = call.on(&mut run);
+            assert_eq!(code, 1, "{} on {n} numbers", call.name);
+            let sevens = [7, 7.0_f64.to_bits()];
+            assert!(written.iter().all(|x| sevens.contains(x)));
+            assert_eq!(run, before);
+        }
     }
 }
 

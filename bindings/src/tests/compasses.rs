@@ -68,10 +68,6 @@ fn expected(
     }
 }
 
-fn bits(filter: &Filter) -> [u64; FILTER_LENGTH] {
-    filter.0.map(f64::to_bits)
-}
-
 fn nis_bits(answer: CompassesAnswer) -> Option<u64> {
     match answer {
         CompassesAnswer::Chosen { nis, .. } => Some(nis.to_bits()),
@@ -92,7 +88,7 @@ fn answer(
     let (expected, left) = expected(first, readings, compasses, budget);
     assert_eq!(answer, Ok(expected));
     assert_eq!(answer.map(nis_bits), Ok(nis_bits(expected)));
-    assert_eq!(bits(&filter), bits(&left));
+    assert_eq!(bits(&filter.0), bits(&left.0));
     expected
 }
 
@@ -113,7 +109,7 @@ fn the_best_is_applied_as_a_direction() {
     let (nis, left) = alone(&doubtful(), readings[1], &field());
     let (index, nis, tried) = (1, nis.unwrap(), 4);
     assert_eq!(answer, Ok(CompassesAnswer::Chosen { index, nis, tried }));
-    assert_eq!(bits(&filter), bits(&left));
+    assert_eq!(bits(&filter.0), bits(&left.0));
     assert_ne!(filter, doubtful());
 }
 
@@ -290,7 +286,7 @@ fn none_leaves_all_as_it_was() {
         let mut filter = doubtful();
         let answer = written(&mut filter, readings, &compasses, budget);
         assert_eq!(answer, (0, [tried, 8], 7.0));
-        assert_eq!(bits(&filter), bits(&doubtful()));
+        assert_eq!(bits(&filter.0), bits(&doubtful().0));
         let answer = filter.update_compasses(readings, &compasses.numbers(), budget);
         assert_eq!(answer, Ok(CompassesAnswer::None { tried }));
     }
@@ -415,10 +411,10 @@ fn blanks_refuse_the_call() {
         for place in 0..FILTER_LENGTH {
             let mut filter = doubtful();
             filter.0[place] = x;
-            let before = bits(&filter);
+            let before = bits(&filter.0);
             let (code, counts, nis) = written(&mut filter, &readings, &field(), place % 9);
             assert_eq!((code, counts, nis), (2, [7, 7], 7.0));
-            assert_eq!(bits(&filter), before);
+            assert_eq!(bits(&filter.0), before);
         }
         for place in 0..READING_LENGTH {
             let mut readings = readings;

@@ -114,7 +114,7 @@ fn blanks_come_before_null() {
             assert_refused(&numbers, Refusal::Blank);
         }
         let mut filter = doubtful();
-        filter.set_alpha(x);
+        filter.set_alphas(Alphas::all(x));
         let numbers = field([0.0; 3], [0.0; 3], 1e-4);
         assert_eq!(filter.update_direction(&numbers), Err(Refusal::Blank));
     }

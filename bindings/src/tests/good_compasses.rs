@@ -40,7 +40,7 @@ fn flight(count: usize, noise: &mut Noise) -> [f64; 3] {
         ..Deviations::default()
     };
     let mut filter = started(&State::default(), deviations.sigma(&State::default()));
-    filter.set_alpha(0.01);
+    filter.set_alphas(Alphas::all(0.01));
     let mut mean = 0.0;
     for _ in 0..CALLS {
         let readings: Vec<[f64; 3]> = (0..count)

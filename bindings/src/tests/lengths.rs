@@ -4,7 +4,8 @@ use std::format;
 
 #[test]
 fn lengths() {
-    assert_eq!(FILTER_LENGTH, 478);
+    assert_eq!(FILTER_LENGTH, 480);
+    assert_eq!(ONE_ALPHA_LENGTH, 478);
     assert_eq!(STATE_LENGTH, 33);
     assert_eq!(START_LENGTH, 477);
     assert_eq!(PROPAGATE_LENGTH, 25);
@@ -21,10 +22,13 @@ fn lengths() {
 #[test]
 fn places_of_a_filter() {
     use places::filter::*;
-    let all = [
-        A, VELOCITY, POSITION, GAMMA, DELTA, E, SIGMA, GRAVITY, ALPHA,
-    ];
-    assert_eq!(all, [0, 9, 12, 15, 21, 24, 33, 474, 477]);
+    let all = [A, VELOCITY, POSITION, GAMMA, DELTA, E, SIGMA, GRAVITY];
+    assert_eq!(all, [0, 9, 12, 15, 21, 24, 33, 474]);
+    assert_eq!(
+        [POSITION_ALPHA, VELOCITY_ALPHA, DIRECTION_ALPHA],
+        [477, 478, 479]
+    );
+    assert_eq!(places::one_alpha::ALPHA, 477);
 }
 
 #[test]

@@ -1,4 +1,4 @@
-//! The parts that are read from a filter, and alpha.
+//! The parts that are read from a filter.
 use super::*;
 use std::panic::catch_unwind;
 
@@ -18,7 +18,12 @@ fn parts_by_their_places() {
     assert_eq!(filter.position(), [12.0, 13.0, 14.0]);
     assert_eq!(filter.sigma()[..], filter.0[33..474]);
     assert_eq!(filter.gravity(), [474.0, 475.0, 476.0]);
-    assert_eq!(filter.alpha(), 477.0);
+    let alphas = Alphas {
+        position: 477.0,
+        velocity: 478.0,
+        direction: 479.0,
+    };
+    assert_eq!(filter.alphas(), alphas);
 }
 
 #[test]
@@ -48,48 +53,5 @@ fn parts_are_the_estimate() {
     assert!(!same(filter::DELTA, &estimate.lever));
     assert!(!same(filter::E, estimate.mag.as_flattened()));
     assert_eq!(filter.gravity(), [0.0, 0.0, 9.81]);
-    assert_eq!(filter.alpha(), 0.5);
-}
-
-/// A filter at the origin with the given alpha, after an antenna position 10 m off, some 60 standard deviations.
-fn surprised(alpha: f64) -> Filter {
-    let mut filter = started(&State::default(), diagonal([0.01; STATES]));
-    filter.set_alpha(alpha);
-    let nis = filter.update_position(&position(10.0, 0.01)).unwrap();
-    assert_close(&[nis], &[10.0 * 10.0 / 0.03], 1e-9);
-    filter
-}
-
-/// The projected variance 0.02 is doubled, and twice alpha times the squared innovation is added to it.
-#[test]
-fn alpha_weighs_surprises() {
-    for alpha in [0.0, 0.5, 1.0] {
-        let expected = 10.0 * 0.01 / (2.0 * 0.02 + 2.0 * alpha * 10.0 * 10.0 + 0.01);
-        assert_close(&[surprised(alpha).position()[0]], &[expected], 1e-12);
-    }
-}
-
-#[test]
-fn alpha_is_stored_and_clamped() {
-    for (alpha, taken) in [(-3.0, 0.0), (7.0, 1.0)] {
-        let filter = surprised(alpha);
-        assert_eq!(filter.alpha(), alpha);
-        assert_eq!(
-            filter.0[..filter::ALPHA],
-            surprised(taken).0[..filter::ALPHA]
-        );
-    }
-}
-
-#[test]
-fn an_alpha_that_is_not_finite_is_refused() {
-    for alpha in [f64::NAN, f64::INFINITY] {
-        let mut filter = whole_case();
-        filter.set_alpha(alpha);
-        assert_eq!(filter.nav_state(), Err(Refusal::Blank));
-        assert_eq!(
-            filter.update_position(&position(0.0, 1.0)),
-            Err(Refusal::Blank)
-        );
-    }
+    assert_eq!(filter.alphas(), Alphas::all(0.5));
 }

@@ -24,7 +24,7 @@ fn doubtful() -> Filter {
 fn bits_by_hand() {
     let (y, variance, sigma, alpha) = (0.07, 0.3, 0.02, 0.25);
     let mut filter = doubtful();
-    filter.set_alpha(alpha);
+    filter.set_alphas(Alphas::all(alpha));
     let nis = filter.update_scalar(&down(y, variance).numbers()).unwrap();
 
     let solved = |x: f64, s: f64| x / s.sqrt() / s.sqrt();
@@ -111,7 +111,7 @@ fn an_inflated_variance_that_overflows_is_refused() {
 #[test]
 fn turns_above_8_are_refused() {
     let mut filter = doubtful();
-    filter.set_alpha(0.0);
+    filter.set_alphas(Alphas::all(0.0));
     let turning = |innovation| {
         let mut numbers = [0.0; SCALAR_LENGTH];
         numbers[scalar::OUTPUT + coordinate::ATTITUDE] = -1.0;
@@ -126,7 +126,7 @@ fn turns_above_8_are_refused() {
 #[test]
 fn a_result_out_of_range_is_refused() {
     let mut filter = whole_case();
-    filter.set_alpha(0.0);
+    filter.set_alphas(Alphas::all(0.0));
     assert_refused(&filter, &down(1e150, 1e-20).numbers(), Refusal::Range);
 }
 

@@ -1,5 +1,6 @@
 //! Call sheets.
 use super::*;
+use std::format;
 use std::string::{String, ToString};
 use std::vec::Vec;
 
@@ -99,6 +100,43 @@ fn broken_sheets_print_6() {
     assert_eq!(text(&whole[..whole.len() - 1]), "refused 6\n");
     let longer = [&whole[..], &[0]].concat();
     assert_eq!(text(&longer), "refused 6\n");
+}
+
+/// A filter with one alpha, or with two, though the call stands right after it.
+#[test]
+fn filters_that_lack_alphas_print_6() {
+    let whole = sheet(&whole_case(), &[position(0.0, 1.0)]);
+    for length in [ONE_ALPHA_LENGTH, FILTER_LENGTH - 1] {
+        let mut bytes = whole.clone();
+        bytes.drain(20 + 8 * length..20 + 8 * FILTER_LENGTH);
+        bytes[16..20].copy_from_slice(&(20 + 8 * length as u32).to_le_bytes());
+        assert_eq!(text(&bytes), "refused 6\n");
+    }
+}
+
+/// The alphas of a sheet's filter are taken: each NIS is that of the same call outside of a sheet.
+#[test]
+fn a_sheet_of_a_filter_with_three_alphas() {
+    let mut filter = started(&moving(), diagonal([0.02; STATES]));
+    filter.set_alphas(Alphas {
+        position: 0.05,
+        velocity: 0.3,
+        direction: 0.8,
+    });
+    let fix = VelocityFix {
+        antenna: [9.0, 9.0, 9.0],
+        omega: [0.0; 3],
+        noise: diagonal([0.01; 3]),
+    }
+    .numbers();
+    let printed = text(&sheet_of(kind::VELOCITY, &filter, &[fix; 3]));
+    let expected: String = (1..=3)
+        .map(|i| {
+            let nis = filter.update_velocity(&fix).unwrap();
+            format!("{i} 3 {:016X}\n", nis.to_bits())
+        })
+        .collect();
+    assert_eq!(printed, expected);
 }
 
 /// As many calls as a sheet may have; the text's place is left as it was after its end.

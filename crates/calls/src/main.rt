@@ -5,15 +5,13 @@
 use call_sheet::text::{MOST_ANSWER, answer_text};
 use drifters_compasses::compasses::{Tried, update_compasses};
 use drifters_entry::entry::{FILTER_LENGTH, START_LENGTH, filter_call, nav_state, start};
+use drifters_entry::layout::POSITION_ALPHA;
 use drifters_eqf::answer::Answer;
 use drifters_kind::kind::{Kind, STATE_LENGTH};
 use std::io;
 
 // Where gravity begins in a start, after its covariance.
 const GRAVITY: usize = START_LENGTH - 3;
-
-// The last number of a filter: alpha.
-const ALPHA: usize = FILTER_LENGTH - 1;
 
 // The name of a kind of call. `Kind` is another crate's, so that no `Display` of it may stand here.
 fn name_of(kind: Kind) -> &'static str {
@@ -178,7 +176,7 @@ fn each_kind(rt: &impl Print, run: &mut [f64]) -> io::Result<()> {
 }
 
 // One refusal of each number: too few numbers, a number that is infinite, a turn above 8, noise below 0, densities that overflow, and both ways
-// to have no direction. A refusal 6 is a call sheet's.
+// to have no direction. A refusal 6 is a call sheet's, one of 8 a conversion's.
 fn refusals(rt: &impl Print, run: &mut [f64]) -> io::Result<()> {
     call(rt, Kind::Propagate, run, &pair())?;
     call(
@@ -214,15 +212,15 @@ fn several_compasses(rt: &impl Print) -> io::Result<()> {
     call(rt, Kind::Direction, &mut copy, &pair())
 }
 
-// A start's alpha, 0.5, keeps the turn of a scalar update of this filter below 8: it is 0 for that refusal. The last call on it is an update of the
-// filter that the refusals left as it was.
+// The alpha that a scalar update uses, 0.5 from the start, keeps its turn on this filter below 8: it is 0 for that refusal. The last call on it is an
+// update of the filter that the refusals left as it was.
 fn main(rt: HostRuntime) -> io::Result<()> {
     let mut run = [0.0; FILTER_LENGTH];
     report(&rt, "start", start(&mut run, &start_numbers()))?;
     each_kind(&rt, &mut run)?;
     refusals(&rt, &mut run)?;
     scalar_refusals(&rt, &mut run)?;
-    run[ALPHA] = 0.0;
+    run[POSITION_ALPHA] = 0.0;
     call(&rt, Kind::Scalar, &mut run, &scalar(100.0, 0.25))?;
     call(&rt, Kind::General, &mut run, &general())?;
     several_compasses(&rt)

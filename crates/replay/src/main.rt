@@ -13,9 +13,9 @@ use replay_lists::tally::Tally;
 use std::io;
 use std::rt::Files;
 
-// Flights of the mount, as they are and with some of the numbers of their calls changed; filters that no flight leaves; large biases; turns just above 8
-// and of 8; directions by vectors of norm 0 and just above it.
-const LISTS: [&str; 31] = [
+// Flights of the mount, as they are and with some of the numbers of their calls changed; filters that no flight leaves; large biases; an alpha for each
+// sensor; turns just above 8 and of 8; directions by vectors of norm 0 and just above it.
+const LISTS: [&str; 34] = [
     "flight",
     "second_flight",
     "backwards",
@@ -40,6 +40,9 @@ const LISTS: [&str; 31] = [
     "rounded_away",
     "biased",
     "blank",
+    "three_alphas",
+    "outer_alphas",
+    "blank_alpha",
     "limit_update",
     "limit_scalar",
     "limit_full",

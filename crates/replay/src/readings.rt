@@ -63,11 +63,13 @@ fn print_refused(rt: &impl Print, name: &str, run: &mut [f64], lent: Lent) -> io
     println!(rt; "{name}: {n} of 8 entries refused 1")
 }
 
-// Runs one number shorter and one longer than stated, and as stated.
+// Runs one number shorter and one longer than stated, and as stated; and a filter with one alpha, which has a number more than a start.
 pub(crate) fn print_lengths(rt: &impl Print) -> io::Result<()> {
+    let mut one_alpha = [0.0; START_LENGTH + 1];
     let mut short = [0.0; FILTER_LENGTH - 1];
     let mut run = [0.0; FILTER_LENGTH];
     let mut long = [0.0; FILTER_LENGTH + 1];
+    print_refused(rt, "a filter with one alpha", &mut one_alpha, Lent::Stated)?;
     print_refused(rt, "a filter one number short", &mut short, Lent::Stated)?;
     print_refused(rt, "a filter one number long", &mut long, Lent::Stated)?;
     print_refused(rt, "a number too few", &mut run, Lent::Fewer)?;

@@ -46,8 +46,8 @@ impl Tally {
             Err(Refusal::Pivot) => self.pivot += ONE,
             Err(Refusal::Range) => self.range += ONE,
             Err(Refusal::Null) => self.null += ONE,
-            // A sheet's, which no call answers.
-            Err(Refusal::Sheet) => {}
+            // A sheet's and a conversion's, which no call answers.
+            Err(Refusal::Sheet | Refusal::Unequal) => {}
         }
         if !same {
             self.differing.calls += ONE;

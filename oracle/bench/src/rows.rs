@@ -47,6 +47,8 @@ const NAMES: [(u32, &str); 7] = [
     (6, "nav_state"),
     (7, "update_scalar"),
 ];
+/// The kind of a direction call.
+const DIRECTION: u32 = 4;
 /// A scalar update whose row has no zeros, as the rows of the general update have none.
 const DENSE: &str = "update_scalar, dense row";
 /// Updates by so many compasses, and as many tries.
@@ -120,7 +122,7 @@ fn compasses_of_port(first: [f64; FILTER], call: Compasses) -> Measured {
 
 /// The direction call by each reading that is tried.
 fn directions(call: &Compasses) -> Vec<Call> {
-    let direction = |reading: &[f64]| Call::read(4, &[reading, &call.north_noise].concat());
+    let direction = |reading: &[f64]| Call::read(DIRECTION, &[reading, &call.north_noise].concat());
     call.readings.chunks(READING).take(call.budget).map(direction).collect()
 }
 
@@ -151,7 +153,7 @@ fn apply_best(directions: &[Call], filter: &mut EqFilter) -> Option<(usize, f64)
 
 /// Whether both sides apply the same reading, with the same NIS.
 fn choose_alike(mut run: [f64; FILTER], call: &Compasses) -> bool {
-    let applied = apply_best(&directions(call), &mut filter_of(&run));
+    let applied = apply_best(&directions(call), &mut filter_of(DIRECTION, &run));
     let (mut counts, mut nis) = ([0; 2], [0.0]);
     let code = port::update_compasses(&mut run, &call.readings, &call.north_noise, call.budget, &mut counts, &mut nis);
     code == 0 && applied == Some((counts[1], nis[0]))
@@ -162,7 +164,7 @@ fn compasses_rows() -> Vec<Row> {
     let row = |(count, name)| {
         let call = flown(&mut flight, count, count);
         assert!(choose_alike(run, &call));
-        Row { name, original: compasses_of_original(filter_of(&run), &call), port: compasses_of_port(run, call) }
+        Row { name, original: compasses_of_original(filter_of(DIRECTION, &run), &call), port: compasses_of_port(run, call) }
     };
     COMPASSES.into_iter().map(row).collect()
 }
@@ -197,7 +199,7 @@ pub fn all() -> Vec<Row> {
     calls.push((7, DENSE, first_of(&flight.call(5))));
     let row = |(kind, name, numbers): (u32, _, Vec<f64>)| Row {
         name,
-        original: of_original(kind, filter_of(&run), &numbers),
+        original: of_original(kind, filter_of(kind, &run), &numbers),
         port: of_port(kind, run, numbers),
     };
     let mut rows: Vec<Row> = calls.into_iter().map(row).collect();

@@ -2,12 +2,13 @@
 //!
 //! A direction call that is refused 7 leaves the comparison, since the original makes it: the port is held to the reading of the checks alone, and to
 //! leaving every lent number.
+use crate::alphas::AlphaTally;
 use crate::in_threads;
 use crate::lent::{Lent, START};
 use drifters_core::math::Vec3;
 use inputs::norms::LEAST_NORMS;
 use inputs::{biased, log, rounded_away, start, Flight, Manner, Numbers};
-use original::places::{DIAGONAL_STEP, FILTER, GRAVITY, SIGMA};
+use original::places::{DIAGONAL_STEP, FILTER, GRAVITY, POSITION_ALPHA, SIGMA};
 use original::{filter_of, is_update, propagated_unedited, Call};
 
 /// How many flights, and how many calls each has.
@@ -51,6 +52,7 @@ struct Tally {
     most_edited: f64,
     with_alone: u64,
     without_alone: u64,
+    alphas: AlphaTally,
 }
 
 impl Tally {
@@ -69,6 +71,7 @@ impl Tally {
         self.most_edited = self.most_edited.max(other.most_edited);
         self.with_alone += other.with_alone;
         self.without_alone += other.without_alone;
+        self.alphas.add(&other.alphas);
     }
 
     fn differing(&self) -> u64 {
@@ -97,7 +100,7 @@ impl Tally {
         let (mut ours, mut theirs) = (lent.clone(), lent.clone());
         let (code, expected) = (ours.on_port(kind), theirs.on_original(kind));
         let column = match expected {
-            4 if Call::read(kind, &lent.numbers).has_raw_factor(&filter_of(&lent.run)) => 5,
+            4 if Call::read(kind, &lent.numbers).has_raw_factor(&filter_of(kind, &lent.run)) => 5,
             5 => 6,
             _ => expected as usize,
         };
@@ -113,7 +116,10 @@ impl Tally {
         }
         if (2..=5).contains(&kind) && !matches!(expected, 1 | NULL) {
             self.read += 1;
-            self.misread += u64::from(!Call::read(kind, &lent.numbers).is_read_alike(&filter_of(&lent.run)));
+            self.misread += u64::from(!Call::read(kind, &lent.numbers).is_read_alike(&filter_of(kind, &lent.run)));
+        }
+        if is_update(kind) && expected != 1 {
+            self.alphas.count(kind, &lent.run, &lent.numbers, (expected == 0).then_some(theirs.run.as_slice()));
         }
         if code != expected || !ours.same(&theirs) {
             let differ = if expected == NULL { &mut self.null_differ } else { &mut self.differ };
@@ -148,10 +154,11 @@ impl Tally {
     }
 }
 
-/// A flight from its start: every call is realistic and goes on from the last.
+/// A flight from its start, with alphas of its own: every call is realistic and goes on from the last.
 fn flight(tally: &mut Tally, seed: u64) {
     let mut flight = Flight::new(seed);
     let mut run = tally.compare(START, Lent::new(START, &[0.0; FILTER], &flight.start()));
+    run[POSITION_ALPHA..].copy_from_slice(&flight.alphas());
     for _ in 0..FLIGHT_CALLS {
         let (kind, numbers) = flight.next_call();
         run = tally.compare(kind, Lent::new(kind, &run, &numbers));
@@ -201,7 +208,7 @@ fn shows_the_edit() -> bool {
     accepted && variances == [1.0, 1.0, 0.0]
 }
 
-/// Gives one of the runs another length.
+/// Gives one of the runs another length. Two numbers fewer are a filter with one alpha.
 fn other_length(n: &mut Numbers, kind: u32, lent: &mut Lent) {
     let run = match n.below(3) {
         0 => &mut lent.run,
@@ -209,7 +216,7 @@ fn other_length(n: &mut Numbers, kind: u32, lent: &mut Lent) {
         _ if !lent.result.is_empty() => &mut lent.result,
         _ => &mut lent.run,
     };
-    let length = n.one_of(&[0, run.len() - 1, run.len() + 1, 2 * run.len()]);
+    let length = n.one_of(&[0, run.len().saturating_sub(2), run.len() - 1, run.len() + 1, 2 * run.len()]);
     run.resize(length, 0.0);
 }
 
@@ -234,6 +241,10 @@ pub fn compare() -> u64 {
     let flights = tally_of("flights", FLIGHTS, flight);
     let logs = tally_of("logs", LOGS, any_log);
     let biased = tally_of("large biases", BIASED_LOGS, biased_log);
-    let differing: u64 = [&flights, &logs, &biased].map(Tally::differing).iter().sum();
+    let tallies = [&flights, &logs, &biased];
+    let mut alphas = AlphaTally::default();
+    tallies.iter().for_each(|tally| alphas.add(&tally.alphas));
+    alphas.print();
+    let differing: u64 = tallies.map(Tally::differing).iter().sum();
     differing + u64::from(biased.edited == 0) + u64::from(!shows_the_edit())
 }

@@ -2,7 +2,7 @@
 use crate::in_threads;
 use crate::lent::{Lent, LentCompasses, START};
 use inputs::{compasses, flown, log, spoil, Compasses, Flight, Manner, Numbers};
-use original::places::{ALPHA, FILTER, MOST_READINGS, READING};
+use original::places::{DIRECTION_ALPHA, FILTER, MOST_READINGS, ONE_ALPHA, POSITION_ALPHA, READING};
 use original::{Answer, Tries};
 
 /// How many flights, how many calls each has before the first compasses, and how many with compasses after each.
@@ -86,7 +86,7 @@ const CASES: [Case; 24] = [
     ("  of equals, filters differ", |made| made.has_equal(|leaves_another, _| leaves_another)),
     ("  of equals below 0", |made| made.has_equal(|_, nis| nis < 0.0)),
     ("  of equals 0", |made| made.has_equal(|_, nis| nis == 0.0)),
-    ("  alpha outside 0..1", |made| made.index().is_some() && !(0.0..=1.0).contains(&made.before.run[ALPHA])),
+    ("  alpha outside 0..1", |made| made.index().is_some() && !(0.0..=1.0).contains(&made.before.run[DIRECTION_ALPHA])),
     ("none", |made| made.index().is_none()),
     ("  budget 0", |made| made.tried() == 0),
     ("  all tried refused", |made| made.tried() > 0 && made.index().is_none()),
@@ -189,6 +189,7 @@ fn flight(tally: &mut Tally, seed: u64) {
     let n = &mut Numbers::new(seed);
     let mut flight = Flight::new(seed);
     let mut run = made(START, &[0.0; FILTER], &flight.start());
+    run[POSITION_ALPHA..].copy_from_slice(&flight.alphas());
     for i in 0..BEHIND + FLIGHT_CALLS {
         let (kind, numbers) = flight.next_call();
         run = made(kind, &run, &numbers);
@@ -234,7 +235,7 @@ fn out_of_range(n: &mut Numbers, lent: &mut LentCompasses) {
         run[place] = f64::NAN;
     }
     match n.below(6) {
-        0 => lent.run.resize(n.one_of(&[0, 1, FILTER - 1, FILTER + 1, 2 * FILTER]), 0.0),
+        0 => lent.run.resize(n.one_of(&[0, 1, ONE_ALPHA, FILTER - 1, FILTER + 1, 2 * FILTER]), 0.0),
         1 => lent.call.readings.resize(n.one_of(&[0, 1, 2, 4, 5, 22, 23, 25, 26, 27, 28, 30, 48]), 0.5),
         2 => lent.call.north_noise.resize(n.one_of(&[0, 3, 11, 13, 15, 24]), 0.0),
         3 => lent.call.budget = n.one_of(&[9, 10, 255, 256, 1 << 32, (1 << 32) + 1, 1 << 63, usize::MAX]),

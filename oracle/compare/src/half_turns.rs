@@ -1,9 +1,10 @@
 //! The half turn (docs/MANUAL.md) on the compiled port: a log and the log read through a half turn give answers and filters that are each other's.
+use crate::conversions::conversion;
 use crate::in_threads;
-use crate::lent::{Lent, LentCompasses};
+use crate::lent::{same, Conversion, Lent, LentCompasses, LentConversion};
 use drifters_eqf::linear::DIM;
 use inputs::{biased, compasses, log, Compasses, Log, Manner, Numbers};
-use original::places::{ALPHA, E, GAMMA, GENERAL_NOISE, GRAVITY, INNOVATION, MOST_READINGS, SCALAR_INNOVATION, SIGMA, VELOCITY};
+use original::places::{E, GAMMA, GENERAL_NOISE, GRAVITY, INNOVATION, MOST_READINGS, POSITION_ALPHA, SCALAR_INNOVATION, SIGMA, VELOCITY};
 
 const LOGS: u64 = 36_000;
 const LOG_CALLS: usize = 24;
@@ -12,6 +13,8 @@ const BIASED_LOGS: u64 = 25_000;
 /// How many logs have compasses, and how often their first filter meets some before the log's calls.
 const COMPASS_LOGS: u64 = 6_000;
 const STANDING_CALLS: usize = 4;
+/// How many conversions there are, of both ways.
+const CONVERSIONS: u64 = 60_000;
 
 type Signs = [f64; 3];
 
@@ -43,7 +46,7 @@ fn turned_filter(s: &Signs, run: &[f64]) -> Vec<f64> {
     turn_rows(s, 1, &mut run[GAMMA..E]);
     turn_rows(s, 3, &mut run[E..SIGMA]);
     turn_both(s, DIM, &mut run[SIGMA..GRAVITY]);
-    turn_rows(s, 1, &mut run[GRAVITY..ALPHA]);
+    turn_rows(s, 1, &mut run[GRAVITY..POSITION_ALPHA]);
     run
 }
 
@@ -143,8 +146,9 @@ impl<'a> Twins<'a> {
         (codes.0, lent, same)
     }
 
+    /// The alphas have the same bits.
     fn are_twins(&self) -> bool {
-        equal(&turned_filter(self.signs, &self.run), &self.turned)
+        same(&self.run[POSITION_ALPHA..], &self.turned[POSITION_ALPHA..]) && equal(&turned_filter(self.signs, &self.run), &self.turned)
     }
 }
 
@@ -229,6 +233,41 @@ fn all_compasses(axis: &str, signs: &Signs) -> u64 {
     differ
 }
 
+/// How many conversions were made of a filter and of its twin, how many were accepted, and how many differ.
+#[derive(Default)]
+struct ConversionTally {
+    made: u64,
+    accepted: u64,
+    differ: u64,
+}
+
+impl ConversionTally {
+    fn add(self, other: Self) -> Self {
+        Self { made: self.made + other.made, accepted: self.accepted + other.accepted, differ: self.differ + other.differ }
+    }
+}
+
+/// A conversion of a filter, turned afterwards, and of the filter that was turned before: one and the same, bit for bit.
+fn compare_conversion(lent: &LentConversion, way: Conversion, s: &Signs) -> ConversionTally {
+    let turned = |lent: &LentConversion| LentConversion { read: turned_filter(s, &lent.read), written: turned_filter(s, &lent.written) };
+    let (mut plain, mut twin) = (lent.clone(), turned(lent));
+    let codes = (plain.on_port(way), twin.on_port(way));
+    let same = codes.0 == codes.1 && turned(&plain).same(&twin);
+    ConversionTally { made: 1, accepted: u64::from(codes == (0, 0)), differ: u64::from(!same) }
+}
+
+/// Prints what was found of conversions about an axis, and gives how many differ.
+fn all_conversions(axis: &str, signs: &Signs) -> u64 {
+    let one = |seed: u64| {
+        let way = Conversion::ALL[seed as usize / 2 % 2];
+        compare_conversion(&conversion(&mut Numbers::new(seed), way), way, signs)
+    };
+    let tallies = in_threads(CONVERSIONS, |seeds| seeds.map(one).fold(ConversionTally::default(), ConversionTally::add));
+    let ConversionTally { made, accepted, differ } = tallies.into_iter().fold(ConversionTally::default(), ConversionTally::add);
+    println!("half turn about the {axis} axis, {made} conversions, {accepted} accepted; {differ} differ");
+    differ
+}
+
 /// The tally of the logs of so many seeds, each beside its twin that these signs turn.
 fn all_logs(seeds: u64, log: impl Fn(u64) -> Log + Sync, signs: &Signs) -> Tally {
     let one_thread = |seeds: &mut dyn Iterator<Item = u64>| seeds.map(|seed| compare_log(&log(seed), signs)).fold(Tally::default(), Tally::add);
@@ -244,7 +283,7 @@ pub fn compare() -> u64 {
         println!("half turn about the {axis} axis: {counts}; {differ} differ");
         let large = all_logs(BIASED_LOGS, |seed| biased(&mut Numbers::new(seed)), signs);
         println!("half turn about the {axis} axis, large biases: {} propagations; {} differ", large.calls, large.differ);
-        wrong += differ + large.differ + all_compasses(axis, signs);
+        wrong += differ + large.differ + all_compasses(axis, signs) + all_conversions(axis, signs);
     }
     wrong
 }

@@ -1,7 +1,7 @@
 //! A call with all its lent runs, made on either side.
 use inputs::Compasses;
-use original::places::{MOST_READINGS, STATE};
-use original::{is_update, Answer, Tries, LAST_KIND};
+use original::places::{FILTER, MOST_READINGS, ONE_ALPHA, STATE};
+use original::{is_update, Alphas, Answer, Tries, LAST_KIND};
 
 /// The number that stands for a start beside the kinds of call.
 pub const START: u32 = LAST_KIND + 1;
@@ -30,8 +30,13 @@ impl Lent {
         }
     }
 
-    /// Makes the call on the original. The run of a NIS is the port's own; refusal 1 is for every lent run.
+    /// Makes the call on the original. Answers as the port does.
     pub fn on_original(&mut self, kind: u32) -> u32 {
+        self.on_original_with(Alphas::Three, kind)
+    }
+
+    /// The same where the filter has these alphas. The run of a NIS is the port's own; refusal 1 is for every lent run.
+    pub fn on_original_with(&mut self, alphas: Alphas, kind: u32) -> u32 {
         let update = is_update(kind);
         if update && self.result.len() != result_length(kind) {
             return 1;
@@ -39,7 +44,7 @@ impl Lent {
         let written: &mut [f64] = if update { &mut [] } else { &mut self.result };
         let answer = match kind {
             START => original::start(&mut self.run, &self.numbers),
-            _ => original::call(kind, &mut self.run, &self.numbers, written),
+            _ => original::call_with(alphas, kind, &mut self.run, &self.numbers, written),
         };
         match answer {
             Answer::Nis(nis) => self.result[0] = nis,
@@ -81,12 +86,18 @@ impl LentCompasses {
         port::update_compasses(&mut self.run, readings, north_noise, *budget, &mut self.counts, &mut self.nis)
     }
 
-    /// Makes the call by the reading over the original. Gives what was tried, or the refusal's number; refusal 1 is for every lent run.
+    /// Makes the call by the reading over the original. Gives what was tried, or the refusal's number.
     pub fn on_original(&mut self) -> Result<Tries, u32> {
+        self.on_original_with(Alphas::Three)
+    }
+
+    /// The same where the filter has these alphas. Refusal 1 is for every lent run.
+    pub fn on_original_with(&mut self, alphas: Alphas) -> Result<Tries, u32> {
         if self.counts.len() != COUNTS || self.nis.len() != NIS {
             return Err(1);
         }
-        let tries = original::update_compasses(&mut self.run, &self.call.readings, &self.call.north_noise, self.call.budget)?;
+        let Compasses { readings, north_noise, budget } = &self.call;
+        let tries = original::update_compasses_with(alphas, &mut self.run, readings, north_noise, *budget)?;
         self.counts = vec![tries.made.len(), MOST_READINGS];
         if let Some((i, nis)) = tries.applied {
             self.counts[1] = i;
@@ -105,7 +116,48 @@ impl LentCompasses {
     }
 }
 
-fn same(x: &[f64], y: &[f64]) -> bool {
+#[derive(Clone, Copy)]
+pub enum Conversion {
+    Upgrade,
+    Downgrade,
+}
+
+impl Conversion {
+    pub const ALL: [Self; 2] = [Self::Upgrade, Self::Downgrade];
+
+    /// How many numbers a conversion reads, and how many it writes.
+    pub fn lengths(self) -> (usize, usize) {
+        match self {
+            Self::Upgrade => (ONE_ALPHA, FILTER),
+            Self::Downgrade => (FILTER, ONE_ALPHA),
+        }
+    }
+}
+
+/// What is lent to a conversion: the filter that it reads, and the run that it writes.
+#[derive(Clone)]
+pub struct LentConversion {
+    pub read: Vec<f64>,
+    pub written: Vec<f64>,
+}
+
+impl LentConversion {
+    /// Makes the conversion on the port. Answers 0 or the refusal's number.
+    pub fn on_port(&mut self, conversion: Conversion) -> u32 {
+        match conversion {
+            Conversion::Upgrade => port::upgrade(&self.read, &mut self.written),
+            Conversion::Downgrade => port::downgrade(&self.read, &mut self.written),
+        }
+    }
+
+    /// Whether every lent number has the same bits.
+    pub fn same(&self, other: &Self) -> bool {
+        same(&self.read, &other.read) && same(&self.written, &other.written)
+    }
+}
+
+/// Whether two runs have the same bits.
+pub fn same(x: &[f64], y: &[f64]) -> bool {
     x.len() == y.len() && x.iter().zip(y).all(|(x, y)| x.to_bits() == y.to_bits())
 }
 

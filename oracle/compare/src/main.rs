@@ -1,9 +1,13 @@
-//! Compares the port with the original, bit for bit: the calls, updates by several compasses, call sheets and the leaves; and the port with itself
-//! through half turns.
+//! Compares the port with the original, bit for bit: the calls, updates by several compasses, filters that are changed over, call sheets and the leaves;
+//! the conversions with a second reading; and the port with itself through half turns.
 //!
 //! Ends with status 1 where anything differs.
+mod alphas;
 mod calls;
+mod changed_over;
 mod compasses;
+mod conversion_reading;
+mod conversions;
 mod half_turns;
 mod leaves;
 mod lent;
@@ -25,7 +29,13 @@ fn in_threads<T: Send>(seeds: u64, work: impl Fn(&mut dyn Iterator<Item = u64>) 
 }
 
 fn main() {
-    let differ = leaves::compare() + calls::compare() + compasses::compare() + sheets::compare() + half_turns::compare();
+    let differ = leaves::compare()
+        + calls::compare()
+        + compasses::compare()
+        + conversions::compare()
+        + changed_over::compare()
+        + sheets::compare()
+        + half_turns::compare();
     println!("{differ} differ in all");
     exit(i32::from(differ > 0));
 }

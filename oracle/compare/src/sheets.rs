@@ -110,8 +110,8 @@ fn sheet_of(counts: [usize; LAST_KIND as usize]) -> Vec<u8> {
 
 /// The limits of the layout: 256 and 257 entries, 65,532 bytes and more, no call, no byte.
 fn limits(tally: &mut Tally) {
-    let longest = sheet_of([18, 1, 1, 0, 90, 135, 10]);
-    let too_long = sheet_of([16, 4, 2, 0, 90, 133, 10]);
+    let longest = sheet_of([18, 4, 3, 2, 89, 130, 9]);
+    let too_long = sheet_of([18, 4, 1, 1, 89, 131, 11]);
     assert!(longest.len() == MOST_BYTES - 4 && too_long.len() == MOST_BYTES + 4);
     let states = |count| sheet_of([0, 0, 0, 0, 0, count, 0]);
     for bytes in [longest, too_long, states(255), states(256), states(0), Vec::new()] {

@@ -5,6 +5,9 @@ use drifters_core::math::Vec3;
 use original::filter_of;
 use original::places::{DT, E, FILTER, GAMMA, PROPAGATION, SIGMA, VELOCITY};
 
+/// The kind of a propagation.
+const PROPAGATE: u32 = 1;
+
 /// How many powers of ten, from 1 on, the size of each half of the bias is one of.
 const POWERS: usize = 20;
 
@@ -42,8 +45,8 @@ pub fn biased(n: &mut Numbers) -> Log {
     let sizes = [0, 1].map(|_| 10f64.powi(n.below(POWERS) as i32));
     let mut run = vec![0.0; FILTER];
     original::start(&mut run, &start(n, sizes));
-    let bias = filter_of(&run).nav_state().bias;
-    let calls = (0..CALLS).map(|_| (1, propagation(n, [bias.omega, bias.nu], sizes[0]))).collect();
+    let bias = filter_of(PROPAGATE, &run).nav_state().bias;
+    let calls = (0..CALLS).map(|_| (PROPAGATE, propagation(n, [bias.omega, bias.nu], sizes[0]))).collect();
     Log { run, calls }
 }
 
@@ -56,5 +59,5 @@ pub fn rounded_away() -> Log {
     run[E..SIGMA].iter_mut().step_by(4).for_each(|x| *x = 1.0);
     let mut numbers = vec![0.0; PROPAGATION];
     (numbers[0], numbers[DT], numbers[DT + 1]) = (-1e16, 1.0, 1.0);
-    Log { run, calls: vec![(1, numbers)] }
+    Log { run, calls: vec![(PROPAGATE, numbers)] }
 }

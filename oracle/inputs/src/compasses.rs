@@ -1,4 +1,5 @@
 //! Updates by several compasses: in the manners of a log, and as a mount in flight has them.
+use crate::alphas::BLANKS;
 use crate::log::{call, cancelling, Manner};
 use crate::norms::{long, null};
 use crate::{Flight, Numbers};
@@ -11,9 +12,6 @@ const DIRECTION: u32 = 4;
 
 /// How many vectors are tried to find one whose NIS is below 0.
 const TRIALS: usize = 200;
-
-/// What is not finite.
-const BLANKS: [f64; 4] = [f64::INFINITY, f64::NEG_INFINITY, f64::NAN, -f64::NAN];
 
 type Reading = [f64; READING];
 
@@ -49,7 +47,7 @@ pub fn flown(flight: &mut Flight, count: usize, budget: usize) -> Compasses {
 fn drawn(n: &mut Numbers, manner: Manner, run: &[f64], count: usize) -> (Vec<Reading>, Vec<f64>) {
     let north_noise = call(n, manner, DIRECTION, run).split_off(READING);
     let error = n.one_of(&[0.0, 1e-12, 1e-6, 1e-3, 0.1]);
-    let expected = filter_of(run).x.e.transpose() * vector(&north_noise).normalized();
+    let expected = filter_of(DIRECTION, run).x.e.transpose() * vector(&north_noise).normalized();
     let reading = |_| {
         if n.one_in(2) {
             (expected + Vec3::from_array(n.withins(error))).to_array()
@@ -81,7 +79,7 @@ fn below_zero(n: &mut Numbers, run: &[f64], count: usize) -> (Vec<Reading>, Vec<
     let (innovation, noise) = cancelling(n);
     let innovation = Vec3::from_array(innovation);
     let north = Vec3::new(innovation.y, -innovation.x, 0.0).normalized();
-    let e = filter_of(run).x.e;
+    let e = filter_of(DIRECTION, run).x.e;
     let is_below = |measured: &Vec3| {
         let y = Vector::from(north.skew() * (e * measured.normalized()));
         Cholesky::new(&noise).is_some_and(|factor| y.transpose().matmul(&factor.solve(&y))[(0, 0)] < 0.0)

@@ -90,6 +90,15 @@ impl Flight {
         start
     }
 
+    /// Alphas for its sensors: one for all, or one for each.
+    pub fn alphas(&mut self) -> [f64; 3] {
+        if self.numbers.one_in(4) {
+            [self.numbers.unit(); 3]
+        } else {
+            core::array::from_fn(|_| self.numbers.unit())
+        }
+    }
+
     fn noise(&self, variance: f64) -> [f64; 9] {
         let v = variance;
         [v, 0.1 * v, 0.0, 0.1 * v, 1.2 * v, -0.05 * v, 0.0, -0.05 * v, 2.0 * v]

@@ -1,9 +1,10 @@
 //! Logs: a filter's run and calls on it, in manners that reach every answer.
+use crate::alphas::{alphas, one_alpha, BLANKS};
 use crate::norms::{long, null, short};
 use crate::scalar::scalar;
 use crate::{beside, Numbers};
 use drifters_core::math::{Mat3, Matrix, Quat, Vec3};
-use original::places::{DELTA, E, GAMMA, GENERAL_NOISE, INNOVATION, POSITION};
+use original::places::{DELTA, E, GAMMA, GENERAL_NOISE, INNOVATION, POSITION, POSITION_ALPHA};
 
 /// The kinds that a log's calls are drawn from. A direction stands twice, since many have a vector at the limits of the norm; so does a scalar
 /// update, which has no call of the original's own.
@@ -39,12 +40,21 @@ impl Manner {
 const SIZES: [f64; 5] = [2.0, 2.0, 0.1, 0.1, 1.0];
 
 pub struct Log {
+    /// The first filter.
     pub run: Vec<f64>,
     pub calls: Vec<(u32, Vec<f64>)>,
 }
 
 /// A log of at most so many calls of any kind.
 pub fn log(n: &mut Numbers, manner: Manner, most: usize) -> Log {
+    let Log { mut run, calls } = one_alpha_log(n, manner, most);
+    run.truncate(POSITION_ALPHA);
+    run.extend(alphas(n, manner));
+    Log { run, calls }
+}
+
+/// A log whose filter has one alpha.
+pub fn one_alpha_log(n: &mut Numbers, manner: Manner, most: usize) -> Log {
     let run = filter(n, manner);
     let calls = if manner == Manner::Turning { most.min(2) } else { n.below(most + 1) };
     let call = |_| {
@@ -71,7 +81,7 @@ pub fn start(n: &mut Numbers, manner: Manner) -> Vec<f64> {
     numbers
 }
 
-/// The numbers of a filter.
+/// The numbers of a filter with one alpha.
 fn filter(n: &mut Numbers, manner: Manner) -> Vec<f64> {
     let mut parts = Parts::new(manner);
     let straight = manner == Manner::Turning;
@@ -85,11 +95,7 @@ fn filter(n: &mut Numbers, manner: Manner) -> Vec<f64> {
     overflowing(n, manner, &mut run[POSITION..GAMMA]);
     run.extend(covariance(n, manner));
     run.extend(if n.one_in(2) { [0.0, 0.0, 9.81] } else { n.withins(10.0) });
-    run.push(match manner {
-        Manner::Turning => 0.0,
-        _ if n.one_in(4) => n.one_of(&[0.0, -0.0, 1.0, 0.5, -1e300, 1e300, -5e-324]),
-        _ => 0.5 + n.within(0.7),
-    });
+    run.push(one_alpha(n, manner));
     sprinkle(n, manner, &mut run);
     run
 }
@@ -199,7 +205,7 @@ fn sprinkle(n: &mut Numbers, manner: Manner, numbers: &mut [f64]) {
         };
     }
     if manner == Manner::Damaged && n.one_in(8) {
-        numbers[n.below(numbers.len())] = n.one_of(&[f64::INFINITY, f64::NEG_INFINITY, f64::NAN, -f64::NAN]);
+        numbers[n.below(numbers.len())] = n.one_of(&BLANKS);
     }
 }
 

@@ -1,7 +1,7 @@
 //! One call on the original's filter: as the original makes it, and with the manual's checks (docs/MANUAL.md) in their order.
 use crate::measurement::{Measured, Measurement};
-use crate::places::{GENERAL, PROPAGATION, SCALAR, STATE};
-use crate::runs::{all_finite, run_of, state_numbers, Reader};
+use crate::places::{GENERAL, PROPAGATION, SCALAR, START, STATE};
+use crate::runs::{all_finite, filter_with, numbers_of, state_numbers, Reader};
 use crate::Answer;
 use drifters_core::math::{Mat3, Vec3};
 use drifters_eqf::filter::{EqFilter, ProcessNoise};
@@ -151,8 +151,8 @@ impl Call {
         let measurement = self.measurement(f).expect("an update");
         let (mut own, mut read) = (f.clone(), f.clone());
         match (self.make(&mut own, &mut State::default()), answer_of(measurement.update(&mut read))) {
-            (Answer::Nis(x), Answer::Nis(y)) => same(&[x], &[y]) && same(&run_of(&own), &run_of(&read)),
-            (Answer::Refused(_), Answer::Refused(_)) => same(&run_of(&own), &run_of(&read)),
+            (Answer::Nis(x), Answer::Nis(y)) => same(&[x], &[y]) && same(&numbers_of(&own), &numbers_of(&read)),
+            (Answer::Refused(_), Answer::Refused(_)) => same(&numbers_of(&own), &numbers_of(&read)),
             _ => false,
         }
     }
@@ -183,30 +183,32 @@ fn propagation_turns_too_far(f: &EqFilter, u: &Input, dt: f64) -> bool {
     too_far(&lift(&act_state(&half, &State::default()), u, f.gravity).scaled(dt))
 }
 
-/// Makes a call with the checks after that of the lengths: 2, 7, the original's own 4, 3 and 5. A refusal leaves the filter and `written`.
-pub fn checked(f: &mut EqFilter, call: &Call, numbers: &[f64], written: &mut [f64]) -> Answer {
-    if !all_finite(&run_of(f)) || !all_finite(numbers) {
+/// Makes a call on a filter's run with the checks after that of the lengths: 2, 7, the original's own 4, 3 and 5. The original is given the alpha at a
+/// place of the run, and all alphas stay. A refusal leaves the run and `written`.
+pub fn checked(call: &Call, run: &mut [f64], alpha: usize, numbers: &[f64], written: &mut [f64]) -> Answer {
+    if !all_finite(run) || !all_finite(numbers) {
         return Answer::Refused(2);
     }
     if call.is_null() {
         return Answer::Refused(7);
     }
+    let f = filter_with(run, run[alpha]);
     let (mut after, mut state) = (f.clone(), State::default());
     let answer = call.make(&mut after, &mut state);
     if let Answer::Refused(_) = answer {
         return answer;
     }
-    if call.turns_too_far(f) {
+    if call.turns_too_far(&f) {
         return Answer::Refused(3);
     }
-    let state = state_numbers(&state);
+    let (state, left) = (state_numbers(&state), numbers_of(&after));
     let nis = if let Answer::Nis(nis) = answer { nis } else { 0.0 };
-    if !nis.is_finite() || !all_finite(&state) || !all_finite(&run_of(&after)) {
+    if !nis.is_finite() || !all_finite(&state) || !all_finite(&left) {
         return Answer::Refused(5);
     }
     if let Call::State = call {
         written.copy_from_slice(&state);
     }
-    *f = after;
+    run[..START].copy_from_slice(&left);
     answer
 }

@@ -1,8 +1,8 @@
 //! One update by the best of several compasses, read from docs/MANUAL.md over the original's `update_direction`, since the original has no
 //! such call. Every reading that the budget allows is tried first, and the accepted ones are put in order afterwards.
-use crate::places::{FILTER, MOST_READINGS, NORTH_NOISE, READING};
+use crate::places::{MOST_READINGS, NORTH_NOISE, READING};
 use crate::runs::all_finite;
-use crate::{call, Answer};
+use crate::{call_with, Alphas, Answer};
 
 /// The kind of a direction call.
 const DIRECTION: u32 = 4;
@@ -31,14 +31,26 @@ impl Tries {
 
 /// The update on a filter's run: what was tried and applied, or the number of a refusal.
 pub fn update_compasses(run: &mut [f64], readings: &[f64], north_noise: &[f64], budget: usize) -> Result<Tries, u32> {
+    update_compasses_with(Alphas::Three, run, readings, north_noise, budget)
+}
+
+/// The same where the run has these alphas.
+pub fn update_compasses_with(
+    alphas: Alphas,
+    run: &mut [f64],
+    readings: &[f64],
+    north_noise: &[f64],
+    budget: usize,
+) -> Result<Tries, u32> {
     let counted = (1..=MOST_READINGS).any(|count| readings.len() == count * READING);
-    if run.len() != FILTER || !counted || north_noise.len() != NORTH_NOISE || budget > MOST_READINGS {
+    if run.len() != alphas.filter_length() || !counted || north_noise.len() != NORTH_NOISE || budget > MOST_READINGS {
         return Err(1);
     }
     if !all_finite(run) || !all_finite(north_noise) {
         return Err(2);
     }
-    let made = readings.chunks(READING).take(budget).map(|measured| attempt(run, &[measured, north_noise].concat())).collect();
+    let directions = readings.chunks(READING).take(budget).map(|measured| [measured, north_noise].concat());
+    let made = directions.map(|direction| attempt(alphas, run, &direction)).collect();
     let mut tries = Tries { made, applied: None };
     let mut ranked: Vec<_> = tries.accepted().collect();
     // The NIS of an accepted call is a number, and both zeros are equal.
@@ -51,8 +63,8 @@ pub fn update_compasses(run: &mut [f64], readings: &[f64], north_noise: &[f64], 
 }
 
 /// A direction call on a copy of the filter's run.
-fn attempt(run: &[f64], direction: &[f64]) -> Try {
+fn attempt(alphas: Alphas, run: &[f64], direction: &[f64]) -> Try {
     let mut left = run.to_vec();
-    let answer = call(DIRECTION, &mut left, direction, &mut []);
+    let answer = call_with(alphas, DIRECTION, &mut left, direction, &mut []);
     Try { answer, left }
 }

@@ -4,6 +4,9 @@
 //! and a direction call's vectors of norm 0, by the original's own `Vec3::norm` (7). After it: the turn (3) on the algebra elements that the
 //! original hands to `Symmetry::exp`, computed again by its own public functions, and results that are not finite (5). A refused call is made on
 //! a copy, which is dropped.
+//!
+//! The original's filter has one alpha, a run three: it is given the one that the call uses.
+mod alphas;
 mod calls;
 mod compasses;
 mod measurement;
@@ -12,9 +15,10 @@ mod runs;
 mod sheet;
 mod unedited;
 
+pub use alphas::Alphas;
 pub use calls::{call_length, is_update, written_length, Call, LAST_KIND};
-pub use compasses::{update_compasses, Tries, Try};
-pub use runs::filter_of;
+pub use compasses::{update_compasses, update_compasses_with, Tries, Try};
+pub use runs::{filter_of, filter_with, numbers_of};
 pub use sheet::{plain_sheet, run_sheet, REFUSED_SHEET};
 pub use unedited::propagated_unedited;
 
@@ -33,18 +37,18 @@ pub enum Answer {
 
 /// A call of a kind on a filter's run. `written` has the numbers of a state for a state call and none for another.
 pub fn call(kind: u32, run: &mut [f64], numbers: &[f64], written: &mut [f64]) -> Answer {
-    if run.len() != FILTER || numbers.len() != call_length(kind) || written.len() != written_length(kind) {
-        return Answer::Refused(1);
-    }
-    let mut filter = filter_of(run);
-    let answer = calls::checked(&mut filter, &Call::read(kind, numbers), numbers, written);
-    if !matches!(answer, Answer::Refused(_)) {
-        run.copy_from_slice(&runs::run_of(&filter));
-    }
-    answer
+    call_with(Alphas::Three, kind, run, numbers, written)
 }
 
-/// A start: the numbers of a state, of a covariance and of gravity fill a filter's run.
+/// The same where the run has these alphas.
+pub fn call_with(alphas: Alphas, kind: u32, run: &mut [f64], numbers: &[f64], written: &mut [f64]) -> Answer {
+    if run.len() != alphas.filter_length() || numbers.len() != call_length(kind) || written.len() != written_length(kind) {
+        return Answer::Refused(1);
+    }
+    calls::checked(&Call::read(kind, numbers), run, alphas.place(kind), numbers, written)
+}
+
+/// A start: the numbers of a state, of a covariance and of gravity fill a filter's run, with the original's alpha in each place of one.
 pub fn start(run: &mut [f64], numbers: &[f64]) -> Answer {
     if run.len() != FILTER || numbers.len() != START {
         return Answer::Refused(1);
@@ -52,10 +56,12 @@ pub fn start(run: &mut [f64], numbers: &[f64]) -> Answer {
     if !runs::all_finite(numbers) {
         return Answer::Refused(2);
     }
-    let started = runs::run_of(&runs::started(numbers));
-    if !runs::all_finite(&started) {
+    let started = runs::started(numbers);
+    let left = numbers_of(&started);
+    if !runs::all_finite(&left) {
         return Answer::Refused(5);
     }
-    run.copy_from_slice(&started);
+    run[..START].copy_from_slice(&left);
+    run[START..].fill(started.alpha);
     Answer::Fine
 }

@@ -5,7 +5,7 @@ use drifters_eqf::linear::DIM;
 const VECTOR: usize = 3;
 const SQUARE: usize = VECTOR * VECTOR;
 
-// A filter. A state has its biases, lever arm and calibration at the places of gamma, delta and E; a start is a filter without alpha.
+// A filter. A state has its biases, lever arm and calibration at the places of gamma, delta and E; a start is a filter without alphas.
 pub const VELOCITY: usize = SQUARE;
 pub const POSITION: usize = VELOCITY + VECTOR;
 pub const GAMMA: usize = POSITION + VECTOR;
@@ -13,12 +13,17 @@ pub const DELTA: usize = GAMMA + 2 * VECTOR;
 pub const E: usize = DELTA + VECTOR;
 pub const SIGMA: usize = E + SQUARE;
 pub const GRAVITY: usize = SIGMA + DIM * DIM;
-pub const ALPHA: usize = GRAVITY + VECTOR;
+pub const POSITION_ALPHA: usize = GRAVITY + VECTOR;
+pub const VELOCITY_ALPHA: usize = POSITION_ALPHA + 1;
+pub const DIRECTION_ALPHA: usize = VELOCITY_ALPHA + 1;
 
 /// How many numbers a filter, a start and a state have.
-pub const FILTER: usize = ALPHA + 1;
-pub const START: usize = ALPHA;
+pub const FILTER: usize = DIRECTION_ALPHA + 1;
+pub const START: usize = POSITION_ALPHA;
 pub const STATE: usize = SIGMA;
+
+/// How many numbers a filter with one alpha has: that alpha stands where a filter has the one for position.
+pub const ONE_ALPHA: usize = POSITION_ALPHA + 1;
 
 // A propagation: dt, after two vectors, then six vectors of densities.
 pub const DT: usize = 2 * VECTOR;

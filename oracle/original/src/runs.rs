@@ -1,5 +1,6 @@
 //! Runs of numbers as the original's values, and back, at the places of docs/MANUAL.md.
-use crate::places::{FILTER, STATE};
+use crate::places::{START, STATE};
+use crate::Alphas;
 use drifters_core::math::{Matrix, Vec3};
 use drifters_eqf::filter::EqFilter;
 use drifters_eqf::group::{State, Symmetry};
@@ -37,11 +38,16 @@ impl<'a> Reader<'a> {
     }
 }
 
-/// The filter of a run.
-pub fn filter_of(run: &[f64]) -> EqFilter {
+/// The original's filter of a run, with the alpha that a call of a kind uses.
+pub fn filter_of(kind: u32, run: &[f64]) -> EqFilter {
+    filter_with(run, run[Alphas::Three.place(kind)])
+}
+
+/// The original's filter of a run, with this alpha.
+pub fn filter_with(run: &[f64], alpha: f64) -> EqFilter {
     let mut v = Reader::new(run);
     let x = Symmetry { c: v.se23(), gamma: v.se3_tangent(), delta: v.vec3(), e: v.matrix() };
-    EqFilter { x, sigma: v.matrix(), gravity: v.vec3(), alpha: v.number() }
+    EqFilter { x, sigma: v.matrix(), gravity: v.vec3(), alpha }
 }
 
 /// The filter that the original starts from the numbers of a start.
@@ -73,11 +79,11 @@ impl<const N: usize> Writer<N> {
     }
 }
 
-/// The numbers of a filter.
-pub fn run_of(f: &EqFilter) -> [f64; FILTER] {
+/// The numbers of a filter before its alphas, which no call changes.
+pub fn numbers_of(f: &EqFilter) -> [f64; START] {
     let mut w = Writer::new();
     w.se23(&f.x.c).put(&f.x.gamma.to_array()).put(&f.x.delta.to_array()).put(f.x.e.data.as_flattened());
-    w.put(f.sigma.data.as_flattened()).put(&f.gravity.to_array()).put(&[f.alpha]);
+    w.put(f.sigma.data.as_flattened()).put(&f.gravity.to_array());
     w.numbers
 }
 

@@ -1,9 +1,8 @@
 //! Call sheets: an independent reader of the layout in docs/MANUAL.md, and the printer of its answers.
-use crate::calls::{call_length, checked, written_length, Call, LAST_KIND};
+use crate::calls::{call_length, written_length, Call, LAST_KIND};
 use crate::places::FILTER;
-use crate::runs::filter_of;
-use crate::Answer;
-use drifters_eqf::filter::EqFilter;
+use crate::runs::filter_with;
+use crate::{call, Alphas, Answer};
 use drifters_eqf::group::State;
 use std::fmt::Write;
 
@@ -55,16 +54,16 @@ fn entries(bytes: &[u8]) -> Option<Vec<Entry>> {
     (place == bytes.len()).then_some(read)
 }
 
-/// The text of a sheet whose calls are made by `make`.
-fn text_of(bytes: &[u8], mut make: impl FnMut(&mut EqFilter, &Entry) -> Answer) -> String {
-    let Some(entries) = entries(bytes) else {
+/// The text of a sheet whose calls are made by what `on` gives for its filter.
+fn text_of<M: FnMut(&Entry) -> Answer>(bytes: &[u8], on: impl FnOnce(Vec<f64>) -> M) -> String {
+    let Some(mut entries) = entries(bytes) else {
         return REFUSED_SHEET.into();
     };
-    let mut filter = filter_of(&entries[0].numbers);
+    let mut make = on(std::mem::take(&mut entries[0].numbers));
     let mut text = String::new();
     for (i, entry) in entries.iter().enumerate().skip(1) {
         let kind = entry.kind;
-        match make(&mut filter, entry) {
+        match make(entry) {
             Answer::Nis(nis) => writeln!(text, "{i} {kind} {:016X}", nis.to_bits()),
             Answer::Fine => writeln!(text, "{i} {kind} ok"),
             Answer::Refused(number) => writeln!(text, "{i} {kind} refused {number}"),
@@ -76,14 +75,19 @@ fn text_of(bytes: &[u8], mut make: impl FnMut(&mut EqFilter, &Entry) -> Answer) 
 
 /// The text that the manual gives for the bytes of a sheet.
 pub fn run_sheet(bytes: &[u8]) -> String {
-    text_of(bytes, |filter, entry| {
-        let mut written = vec![0.0; written_length(entry.kind)];
-        checked(filter, &Call::read(entry.kind, &entry.numbers), &entry.numbers, &mut written)
+    text_of(bytes, |mut run| {
+        move |Entry { kind, numbers }: &Entry| call(*kind, &mut run, numbers, &mut vec![0.0; written_length(*kind)])
     })
 }
 
 /// The text of a sheet whose calls are made as the original makes them, with no check but its own.
 pub fn plain_sheet(bytes: &[u8]) -> String {
-    let mut state = State::default();
-    text_of(bytes, |filter, entry| std::hint::black_box(Call::read(entry.kind, &entry.numbers).make(filter, &mut state)))
+    text_of(bytes, |run| {
+        // Each call sets the alpha.
+        let (mut filter, mut state) = (filter_with(&run, f64::NAN), State::default());
+        move |Entry { kind, numbers }: &Entry| {
+            filter.alpha = run[Alphas::Three.place(*kind)];
+            std::hint::black_box(Call::read(*kind, numbers).make(&mut filter, &mut state))
+        }
+    })
 }

@@ -1,13 +1,16 @@
 //! A propagation by filter.rs unedited: its `process_noise` takes the input's columns from two lifts, subtracted. No call of the port is held to it; it
 //! tells where the edit counts.
-use crate::places::FILTER;
-use crate::runs::{filter_of, run_of, Reader};
+use crate::places::START;
+use crate::runs::{filter_of, numbers_of, Reader};
 use drifters_eqf::filter::EqFilter;
 use drifters_eqf::lift::Input;
 use drifters_eqf::unedited::filter::{EqFilter as Unedited, ProcessNoise};
 
-/// The run of a filter after a propagation, which no check stops.
-pub fn propagated_unedited(run: &[f64], numbers: &[f64]) -> [f64; FILTER] {
+/// The kind of a propagation.
+const PROPAGATE: u32 = 1;
+
+/// The numbers of a filter before its alphas after a propagation, which no check stops.
+pub fn propagated_unedited(run: &[f64], numbers: &[f64]) -> [f64; START] {
     let mut v = Reader::new(numbers);
     let (u, dt) = (Input { omega: v.vec3(), accel: v.vec3() }, v.number());
     let q = ProcessNoise {
@@ -18,9 +21,9 @@ pub fn propagated_unedited(run: &[f64], numbers: &[f64]) -> [f64; FILTER] {
         lever: v.vec3(),
         mag: v.vec3(),
     };
-    let EqFilter { x, sigma, gravity, alpha } = filter_of(run);
+    let EqFilter { x, sigma, gravity, alpha } = filter_of(PROPAGATE, run);
     let mut f = Unedited { x, sigma, gravity, alpha };
     f.propagate(&u, dt, &q);
     let Unedited { x, sigma, gravity, alpha } = f;
-    run_of(&EqFilter { x, sigma, gravity, alpha })
+    numbers_of(&EqFilter { x, sigma, gravity, alpha })
 }

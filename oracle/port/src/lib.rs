@@ -27,6 +27,8 @@ extern "C" {
         nis: *mut f64,
         one: usize,
     ) -> u32;
+    fn drifters_upgrade(one_alpha: *const f64, length: usize, filter: *mut f64, places: usize) -> u32;
+    fn drifters_downgrade(filter: *const f64, places: usize, one_alpha: *mut f64, length: usize) -> u32;
     fn drifters_nav_state(filter: *const f64, places: usize, state: *mut f64, length: usize) -> u32;
     fn drifters_run_sheet(sheet: *const u8, bytes: usize, text: *mut u8, most: usize, length: *mut usize, one: usize) -> u32;
     fn drifters_sin_cos(theta: f64, out: *mut f64, two: usize) -> u32;
@@ -82,6 +84,16 @@ pub fn update_compasses(
             nis.len(),
         )
     }
+}
+
+/// A filter with one alpha as one with an alpha for each sensor.
+pub fn upgrade(one_alpha: &[f64], filter: &mut [f64]) -> u32 {
+    unsafe { drifters_upgrade(one_alpha.as_ptr(), one_alpha.len(), filter.as_mut_ptr(), filter.len()) }
+}
+
+/// The way back.
+pub fn downgrade(filter: &[f64], one_alpha: &mut [f64]) -> u32 {
+    unsafe { drifters_downgrade(filter.as_ptr(), filter.len(), one_alpha.as_mut_ptr(), one_alpha.len()) }
 }
 
 pub fn nav_state(filter: &[f64], state: &mut [f64]) -> u32 {

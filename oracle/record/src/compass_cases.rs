@@ -1,6 +1,6 @@
 //! What must come up among the updates by several compasses.
 use inputs::Compasses;
-use original::places::{ALPHA, MOST_READINGS, READING};
+use original::places::{DIRECTION_ALPHA, MOST_READINGS, READING};
 use original::{update_compasses, Answer, Tries};
 
 /// A call that is not refused as a whole: its filter, its numbers, and what was tried.
@@ -78,7 +78,7 @@ pub const CASES: [Case; 20] = [
     ("NIS 0", |made| made.nis_is(|nis| nis == 0.0)),
     ("NIS below 0", |made| made.nis_is(|nis| nis < 0.0)),
     ("of two below 0", |made| made.nis_is(|least| made.tries.accepted().any(|(_, nis)| least < nis && nis < 0.0))),
-    ("alpha outside 0..1", |made| made.accepted() > 1 && !(0.0..=1.0).contains(&made.run[ALPHA])),
+    ("alpha outside 0..1", |made| made.accepted() > 1 && !(0.0..=1.0).contains(&made.run[DIRECTION_ALPHA])),
     ("a smaller NIS past the budget", |made| made.index().is_some() && made.has_better_past()),
     ("not finite past the budget", |made| made.index().is_some() && made.left_out().iter().any(|x| !x.is_finite())),
     ("a budget above the count", |made| made.index().is_some() && made.call.budget > made.tried()),

@@ -1,9 +1,9 @@
 //! Updates by several compasses with the original's answers: the filters, then the calls, of which each is made on one of them.
 use crate::compass_cases::{Case, Made, CASES};
 use crate::list::{digest, stored};
-use crate::lists::started;
-use inputs::{compasses, flown, log, spoil, Compasses, Flight, Manner, Numbers};
-use original::places::{FILTER, MOST_READINGS, NORTH_NOISE, READING};
+use crate::lists::{started, tells_alphas};
+use inputs::{compasses, flown, one_alpha_log, spoil, Compasses, Flight, Manner, Numbers};
+use original::places::{FILTER, MOST_READINGS, NORTH_NOISE, ONE_ALPHA, POSITION_ALPHA, READING};
 use original::{update_compasses, Answer};
 
 /// The places of a run in the file: one number, of readings one reading, more than the most that is taken.
@@ -11,10 +11,13 @@ const FILTER_ROOM: usize = FILTER + 1;
 const READINGS_ROOM: usize = READING * (MOST_READINGS + 1);
 const NORTH_NOISE_ROOM: usize = NORTH_NOISE + 1;
 
-/// The numbers of the filters: a flight's, the same with a number that is not one, and the first of those in the manners of a log.
+/// The numbers of the filters: a flight's, the same with a number that is not one, and the first of those in the manners of a log, all of them with one
+/// alpha for all sensors; the flight's with three alphas, and with one that no direction uses and that is not finite.
 const FLIGHT: usize = 0;
 const BLANK: usize = 1;
 const LOGS: usize = 2;
+const THREE_ALPHAS: usize = LOGS + Manner::ALL.len();
+const BLANK_ALPHA: usize = THREE_ALPHAS + 1;
 
 /// How many calls the flight's filter has behind it.
 const BEHIND: usize = 300;
@@ -89,8 +92,16 @@ fn filters(flight: &mut Flight) -> Vec<Vec<f64>> {
     }
     let mut blank = run.clone();
     blank[200] = f64::NAN;
-    let logs = (SEED..).zip(Manner::ALL).map(|(seed, manner)| log(&mut Numbers::new(seed), manner, 0).run);
-    let mut filters: Vec<Vec<f64>> = [run, blank].into_iter().chain(logs).collect();
+    let mut three_alphas = run.clone();
+    three_alphas[POSITION_ALPHA..].copy_from_slice(&[0.25, 0.5, 1.0]);
+    let mut blank_alpha = run.clone();
+    blank_alpha[POSITION_ALPHA] = f64::INFINITY;
+    let logs = (SEED..).zip(Manner::ALL).map(|(seed, manner)| {
+        let mut run = one_alpha_log(&mut Numbers::new(seed), manner, 0).run;
+        run.resize(FILTER, run[POSITION_ALPHA]);
+        run
+    });
+    let mut filters: Vec<Vec<f64>> = [run, blank].into_iter().chain(logs).chain([three_alphas, blank_alpha]).collect();
     filters.iter_mut().for_each(|run| run.push(0.0));
     filters
 }
@@ -119,6 +130,18 @@ fn telling(filters: &[Vec<f64>]) -> Vec<Call> {
     CASES.iter().map(|case| drawn.find(|call| call.is(case, filters)).expect(case.0)).collect()
 }
 
+/// Each count of readings on the filter with three alphas. Each update tells which it uses.
+fn of_three_alphas(flight: &mut Flight, filters: &[Vec<f64>]) -> Vec<Call> {
+    let mut told = |count| {
+        let call = Call::new(THREE_ALPHAS, flown(flight, count, count));
+        let Compasses { readings, north_noise, budget } = &call.numbers;
+        let update = |run: &mut [f64]| update_compasses(run, readings, north_noise, *budget);
+        assert!(tells_alphas(call.run(filters), &call.answer(filters).2, update), "compasses, three alphas");
+        call
+    };
+    (1..=MOST_READINGS).map(&mut told).collect()
+}
+
 fn changed(call: &Call, change: impl FnOnce(&mut Call)) -> Call {
     let mut call = call.clone();
     change(&mut call);
@@ -127,7 +150,7 @@ fn changed(call: &Call, change: impl FnOnce(&mut Call)) -> Call {
 
 /// Calls with a run or the budget out of range, two of them on a filter that is not finite.
 fn out_of_range(call: &Call) -> Vec<Call> {
-    let filters = [FILTER - 1, FILTER + 1].map(|n| changed(call, |call| call.length = n));
+    let filters = [ONE_ALPHA, FILTER - 1, FILTER + 1].map(|n| changed(call, |call| call.length = n));
     let readings = [0, 1, 2, 4, 23, 25, 26, READINGS_ROOM].map(|n| changed(call, |call| call.numbers.readings.resize(n, 0.5)));
     let norths = [0, NORTH_NOISE - 1, NORTH_NOISE_ROOM].map(|n| changed(call, |call| call.numbers.north_noise.resize(n, 0.5)));
     let budgets = [MOST_READINGS + 1, 1 << 32, usize::MAX].map(|n| changed(call, |call| call.numbers.budget = n));
@@ -135,13 +158,13 @@ fn out_of_range(call: &Call) -> Vec<Call> {
     [filters.as_slice(), &readings, &norths, &budgets, &blanks].concat()
 }
 
-/// Calls with a number that is not finite in the filter, in north or in noise, two of them with no budget.
+/// Calls with a number that is not finite in the filter, in an alpha that they do not use, in north or in noise, two of them with no budget.
 fn not_finite(call: &Call) -> Vec<Call> {
-    let filter = changed(call, |call| call.filter = BLANK);
+    let [filter, alpha] = [BLANK, BLANK_ALPHA].map(|blank| changed(call, |call| call.filter = blank));
     let places = [(0, f64::NAN), (2, f64::INFINITY), (3, f64::NEG_INFINITY), (NORTH_NOISE - 1, f64::NAN)];
     let norths = places.map(|(i, x)| changed(call, |call| call.numbers.north_noise[i] = x));
     let unfunded = [&filter, &norths[0]].map(|call| changed(call, |call| call.numbers.budget = 0));
-    [[filter].as_slice(), &norths, &unfunded].concat()
+    [[filter].as_slice(), &norths, &unfunded, &[alpha]].concat()
 }
 
 /// Calls that are all refused by a number.
@@ -169,6 +192,7 @@ pub fn all() -> Vec<u8> {
     let call = Call::new(FLIGHT, flown(&mut flight, 3, 2));
     let mut calls = flying(&mut flight);
     calls.extend(telling(&filters));
+    calls.extend(of_three_alphas(&mut flight, &filters));
     calls.extend(refused(1, out_of_range(&call), &filters));
     calls.extend(refused(2, not_finite(&call), &filters));
     let mut bytes: Vec<u8> = filters.iter().flatten().flat_map(|x| x.to_le_bytes()).collect();

@@ -76,7 +76,7 @@ impl List {
     pub fn add(&mut self, (kind, numbers): (u32, Vec<f64>)) -> Answer {
         assert!(self.has_room(&numbers), "{}: too many calls", self.name);
         let mut state = [UNTOUCHED; STATE];
-        let raw_factor = Call::read(kind, &numbers).has_raw_factor(&filter_of(&self.run));
+        let raw_factor = Call::read(kind, &numbers).has_raw_factor(&filter_of(kind, &self.run));
         let answer = original::call(kind, &mut self.run, &numbers, &mut state[..original::written_length(kind)]);
         self.answers.extend(stored(answer, digest(&state), digest(&self.run)));
         self.tally.count(kind, answer, raw_factor);

@@ -2,7 +2,8 @@
 use crate::list::List;
 use inputs::{biased, rounded_away, Flight, Log, Manner, Numbers};
 use original::places::{
-    ALPHA, DIAGONAL_STEP, DT, E, FILTER, GAMMA, GENERAL, GENERAL_NOISE, GRAVITY, INNOVATION, SCALAR, SCALAR_INNOVATION, SIGMA, VARIANCE,
+    DIAGONAL_STEP, DT, E, FILTER, GAMMA, GENERAL, GENERAL_NOISE, GRAVITY, INNOVATION, POSITION_ALPHA, SCALAR, SCALAR_INNOVATION, SIGMA,
+    START, VARIANCE, VELOCITY_ALPHA,
 };
 use original::{is_update, propagated_unedited, Answer, LAST_KIND};
 
@@ -11,12 +12,37 @@ type Call = (u32, Vec<f64>);
 /// A number out of another.
 type Change = fn(&mut Numbers, f64) -> f64;
 
-/// The filter of a flight's start.
+/// The filter of a flight's start, with one alpha for all sensors.
 pub fn started(flight: &mut Flight, alpha: f64) -> Vec<f64> {
     let mut run = vec![0.0; FILTER];
     original::start(&mut run, &flight.start());
-    run[ALPHA] = alpha;
+    run[POSITION_ALPHA..].fill(alpha);
     run
+}
+
+/// Whether an update leaves another filter by each of the other two alphas. `left` is what it leaves of `run`.
+pub fn tells_alphas<T>(run: &[f64], left: &[f64], update: impl Fn(&mut [f64]) -> T) -> bool {
+    [1, 2].iter().all(|places| {
+        let mut other = run.to_vec();
+        other[POSITION_ALPHA..].rotate_left(*places);
+        update(&mut other);
+        other[..START] != left[..START]
+    })
+}
+
+/// A flight of n calls with an alpha for each sensor. Each update tells which it uses.
+fn with_alphas(name: &'static str, seed: u64, alphas: [f64; 3], n: usize) -> List {
+    let mut flight = Flight::new(seed);
+    let mut run = started(&mut flight, 0.5);
+    run[POSITION_ALPHA..].copy_from_slice(&alphas);
+    let mut list = List::new(name, &run);
+    for _ in 0..n {
+        let (run, (kind, numbers)) = (list.run.clone(), flight.next_call());
+        list.add((kind, numbers.clone()));
+        let update = |run: &mut [f64]| original::call(kind, run, &numbers, &mut []);
+        assert!(!is_update(kind) || tells_alphas(&run, &list.run, update), "{name}");
+    }
+    list
 }
 
 /// A flight of n calls, each changed by `edit` before it is made; where it would leave a filter of large numbers it is left out.
@@ -186,17 +212,17 @@ fn propagated(name: &'static str, log: Log) -> List {
     let mut list = List::new(name, &log.run);
     for call in log.calls {
         let unedited = propagated_unedited(&list.run, &call.1);
-        assert!(matches!(list.add(call), Answer::Fine) && list.run != unedited, "{name}");
+        assert!(matches!(list.add(call), Answer::Fine) && list.run[..START] != unedited, "{name}");
     }
     list
 }
 
 /// A flight's calls on a filter that has one number that is not finite.
-fn blank() -> List {
+fn blank(name: &'static str, place: usize) -> List {
     let mut flight = Flight::new(60);
     let mut run = started(&mut flight, 0.5);
-    run[200] = f64::NAN;
-    let mut list = List::new("blank", &run);
+    run[place] = f64::NAN;
+    let mut list = List::new(name, &run);
     for kind in 1..=LAST_KIND {
         let call = (kind, flight.call(kind));
         list.add(call);
@@ -288,6 +314,9 @@ pub fn all() -> Vec<List> {
         huge("huge_nis", 0.0, &Scales { e: 1e152, sigma: 0.0, innovation: 1e152, ..UNCHANGED }),
         propagated("rounded_away", rounded_away()),
         propagated("biased", biased(&mut Numbers::new(70))),
-        blank(),
+        blank("blank", 200),
+        with_alphas("three_alphas", 77, [0.25, 0.5, 1.0], 120),
+        with_alphas("outer_alphas", 78, [-3.0, 0.5, 2.0], 90),
+        blank("blank_alpha", VELOCITY_ALPHA),
     ]
 }
