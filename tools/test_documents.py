@@ -6,6 +6,7 @@ import os
 import platform
 import re
 import shutil
+import struct
 import subprocess
 import tempfile
 import unittest
@@ -93,7 +94,7 @@ class Manual(unittest.TestCase):
         return places
 
     def test_places(self):
-        tables = {"filter": ("A filter", 478), "propagate": ("Propagate", 25), "position": ("Position", 12), "velocity": ("Velocity", 15),
+        tables = {"filter": ("A filter", 480), "propagate": ("Propagate", 25), "position": ("Position", 12), "velocity": ("Velocity", 15),
                   "direction": ("Direction", 15), "general": ("General", 75), "scalar": ("Scalar", 23)}
         self.assertEqual([name for name, parts in sheet.KINDS if parts], list(tables))
         for kind, (name, parts) in enumerate(sheet.KINDS):
@@ -103,6 +104,13 @@ class Manual(unittest.TestCase):
             self.assertEqual(self.table(title), self.expected(parts))
             self.assertRegex(self.manual, rf"\*\*{title}, (kind {kind}, )?{length} numbers\.\*\*")
             self.assertEqual(length, self.expected(parts)[-1][2])
+
+    def test_places_of_a_filter_with_one_alpha(self):
+        """The parts before the alphas are those of a filter."""
+        parts = [part for part in self.expected(sheet.KINDS[0][1]) if part[0] not in sheet.ALPHAS]
+        (first, _, _), (last, _, end) = parts[0], parts[-1]
+        self.assertEqual(self.table("A filter with one alpha"), [(f"{first} to {last}", 0, end), ("alpha", end, end + 1)])
+        self.assertIn(f"**A filter with one alpha, {end + 1} numbers.**", self.manual)
 
     def test_places_of_several_compasses(self):
         """North and noise are those of a direction, without what is measured."""
@@ -165,7 +173,7 @@ class Manual(unittest.TestCase):
             return
         programs = re.findall(r"^```c\n(.*?)^```\n\nIt prints\n\n```text\n(.*?)^```$", self.manual, re.M | re.S)
         self.assertEqual(len(programs), sum(language == "c" for language, _ in blocks(self.manual)))
-        self.assertEqual(len(programs), 4)
+        self.assertEqual(len(programs), 5)
         for program, printed in programs:
             self.assertEqual(self.printed(program), printed)
 
@@ -220,6 +228,28 @@ class Manual(unittest.TestCase):
         self.assertEqual([answers[0], answers[3]], ["ok", "ok"])
         for bits, (_, printed) in zip(answers[1:3], nis):
             self.assertEqual(f"{sheet.number(int(bits, 16)):.4f}", printed)
+
+    def test_the_bytes_of_the_whole_case(self):
+        """They are those of its text in crates/sheet."""
+        entries = sheet.parse(content("crates/sheet/sheet.txt").encode())
+        data = sheet.pack(entries)
+        *places, last = [f"{struct.unpack_from('<I', data, 8 + 8 * i)[0]:,}" for i in range(len(entries))]
+        self.assertIn(f"begin at the bytes {', '.join(places)} and {last} of {len(data):,}.", " ".join(self.manual.split()))
+
+    def test_a_sheet_of_the_old_length(self):
+        """Without the bytes that the manual tells to insert, and with the places before them, it is refused for its one alpha."""
+        found = re.search(r"8 bytes that\s+begin ([\d,]+)\s+bytes after 4 \+ 8 n.*?add (\d+)", self.manual, re.S)
+        alpha, added = (int(number.replace(",", "")) for number in found.groups())
+        data = bytearray(sheet.pack(sheet.parse(content("crates/sheet/sheet.txt").encode())))
+        count, = struct.unpack_from("<I", data)
+        end = 4 + 8 * count + alpha + 8
+        self.assertEqual(data[end:end + added], 2 * data[end - 8:end])
+        del data[end:end + added]
+        for i in range(1, count):
+            place, = struct.unpack_from("<I", data, 8 + 8 * i)
+            struct.pack_into("<I", data, 8 + 8 * i, place - added)
+        self.assertEqual(len(data), 4 + 8 * count + 8 * (478 + 12 * (count - 1)))
+        self.assertRaisesRegex(sheet.Bad, "one of 478 has one alpha", sheet.unpack, bytes(data))
 
     def test_the_line_of_a_scalar_update(self):
         """The manual's line for a sheet has the numbers of its program in C: the row of p = (400, -300, -1500), and a height of 1503."""
