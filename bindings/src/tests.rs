@@ -3,6 +3,7 @@ use crate::places::filter;
 use crate::*;
 use std::vec::Vec;
 
+mod all_calls;
 mod alphas;
 mod calls;
 mod compasses;
@@ -11,7 +12,6 @@ mod directions;
 mod good_compasses;
 mod inputs;
 mod lengths;
-mod mixed;
 mod parts;
 mod refusals;
 mod scalar_updates;

@@ -1,5 +1,5 @@
 //! An alpha for each sensor: which call takes which, how it is taken, and that no call changes one.
-use super::mixed::{calls, refused_calls};
+use super::all_calls::{calls, refused_calls};
 use super::*;
 
 /// The places of the alphas.
@@ -10,7 +10,7 @@ const PLACES: [usize; 3] = [
 ];
 
 /// A turned filter with these alphas, in the order of their places.
-fn with([position, velocity, direction]: [f64; 3]) -> Filter {
+fn filter_with([position, velocity, direction]: [f64; 3]) -> Filter {
     let mut filter = started(&moving(), diagonal([0.02; STATES]));
     filter.set_alphas(Alphas {
         position,
@@ -24,18 +24,18 @@ fn with([position, velocity, direction]: [f64; 3]) -> Filter {
 fn a_start_sets_each_to_a_half() {
     let filter = started(&moving(), diagonal([0.02; STATES]));
     assert_eq!(filter.alphas(), Alphas::all(0.5));
-    assert_eq!(filter, with([0.5; 3]));
+    assert_eq!(filter, filter_with([0.5; 3]));
 }
 
 #[test]
 fn they_are_stored_at_their_places() {
-    let mut filter = with([0.5; 3]);
+    let mut filter = filter_with([0.5; 3]);
     filter.set_alphas(Alphas {
         position: -3.0,
         velocity: f64::INFINITY,
         direction: -0.0,
     });
-    let mut expected = with([0.5; 3]).0;
+    let mut expected = filter_with([0.5; 3]).0;
     expected[477..].copy_from_slice(&[-3.0, f64::INFINITY, -0.0]);
     assert_eq!(bits(&filter.0), bits(&expected));
     let alphas = filter.alphas();
@@ -51,12 +51,12 @@ fn they_are_stored_at_their_places() {
 fn each_call_takes_its_own() {
     let alphas = [0.05, 0.3, 0.8];
     for call in calls(0.7) {
-        let mut filter = with(alphas);
+        let mut filter = filter_with(alphas);
         let answer = call.on(&mut filter.0);
-        assert_eq!(answer.0, 0, "{}", call.name);
+        assert_eq!(answer.0, call.code, "{}", call.name);
         let left = bits(&filter.0[..filter::POSITION_ALPHA]);
         for (place, alpha) in PLACES.into_iter().zip(alphas) {
-            let mut equal = with([alpha; 3]);
+            let mut equal = filter_with([alpha; 3]);
             assert_eq!(call.on(&mut equal.0), answer, "{}", call.name);
             let as_left = bits(&equal.0[..filter::POSITION_ALPHA]) == left;
             let taken = call.alpha.map_or(true, |own| own == place);
@@ -70,8 +70,8 @@ fn each_call_takes_its_own() {
 fn no_call_changes_them() {
     for alphas in [[0.05, 0.3, 0.8], [-3.0, -0.0, 7.0], [7.0, 5e-324, 0.0]] {
         for call in calls(0.7).into_iter().chain(refused_calls()) {
-            let mut filter = with(alphas);
-            call.on(&mut filter.0);
+            let mut filter = filter_with(alphas);
+            assert_eq!(call.on(&mut filter.0).0, call.code, "{}", call.name);
             let left = bits(&filter.0[filter::POSITION_ALPHA..]);
             assert_eq!(left, bits(&alphas), "{}", call.name);
         }
@@ -83,7 +83,7 @@ fn no_call_changes_them() {
 fn they_are_clamped() {
     for (alpha, taken) in [(-3.0, 0.0), (-0.0, 0.0), (7.0, 1.0)] {
         for call in calls(0.7) {
-            let (mut given, mut clamped) = (with([alpha; 3]), with([taken; 3]));
+            let (mut given, mut clamped) = (filter_with([alpha; 3]), filter_with([taken; 3]));
             let answer = call.on(&mut given.0);
             assert_eq!(answer, call.on(&mut clamped.0), "{}", call.name);
             clamped.set_alphas(Alphas::all(alpha));
@@ -98,7 +98,7 @@ fn one_that_is_not_finite_is_refused() {
     for alpha in [f64::NAN, f64::INFINITY, f64::NEG_INFINITY] {
         for place in PLACES {
             for call in calls(0.7) {
-                let mut filter = with([0.5; 3]);
+                let mut filter = filter_with([0.5; 3]);
                 filter.0[place] = alpha;
                 let before = bits(&filter.0);
                 assert_eq!(call.on(&mut filter.0).0, 2, "{}", call.name);

@@ -164,7 +164,7 @@ fn filters_of_another_length_are_refused() {
         run.resize(n, 0.5);
         let before = run.clone();
         assert_eq!(exported::start(&mut run, &start.numbers()), 1);
-        for call in mixed::calls(0.7) {
+        for call in all_calls::calls(0.7) {
             let (code, written) = call.on(&mut run);
             assert_eq!(code, 1, "{} on {n} numbers", call.name);
             let sevens = [7, 7.0_f64.to_bits()];

@@ -1,5 +1,5 @@
 //! A filter with one alpha, changed over to one with an alpha for each sensor, and back.
-use super::mixed::{calls, refused_calls, Answer};
+use super::all_calls::{calls, refused_calls};
 use super::*;
 use std::vec;
 
@@ -26,11 +26,11 @@ fn three_alphas(alphas: [f64; 3]) -> [f64; FILTER_LENGTH] {
 const BEFORE: [f64; 4] = [0.0, 7.0, f64::NAN, f64::NEG_INFINITY];
 
 /// Zeros of both signs, and alphas inside of 0 to 1 and outside.
-const ONES: [f64; 6] = [0.0, -0.0, 0.3, -3.0, 5e-324, f64::MAX];
+const ALPHA_VALUES: [f64; 6] = [0.0, -0.0, 0.3, -3.0, 5e-324, f64::MAX];
 
 #[test]
 fn the_alpha_is_copied() {
-    for alpha in ONES {
+    for alpha in ALPHA_VALUES {
         let expected = bits(&three_alphas([alpha; 3]));
         for x in BEFORE {
             let (run, mut written) = (one_alpha(alpha), [x; FILTER_LENGTH]);
@@ -43,7 +43,7 @@ fn the_alpha_is_copied() {
 
 #[test]
 fn equal_alphas_become_one() {
-    for alpha in ONES {
+    for alpha in ALPHA_VALUES {
         let expected = bits(&one_alpha(alpha));
         for x in BEFORE {
             let (run, mut written) = (three_alphas([alpha; 3]), [x; ONE_ALPHA_LENGTH]);
@@ -175,33 +175,19 @@ fn changed_back_and_over(filter: &Filter) -> Filter {
     Filter::upgrade(&filter.downgrade().unwrap()).unwrap()
 }
 
-/// A flight of calls of all kinds, several compasses and refused calls among them, that is changed back and over before
-/// one of them. Gives the answer and the filter's bits after each call.
-fn flight(alpha: f64, change: Option<usize>) -> Vec<(Answer, Vec<u64>)> {
-    let mut filter = started(&moving(), diagonal([0.02; STATES]));
-    filter.set_alphas(Alphas::all(alpha));
-    let calls = [calls(0.7), refused_calls(), calls(-0.4)]
-        .into_iter()
-        .flatten();
-    calls
-        .enumerate()
-        .map(|(i, call)| {
-            if change == Some(i) {
-                filter = changed_back_and_over(&filter);
-            }
-            let answer = call.on(&mut filter.0);
-            (answer, bits(&filter.0))
-        })
-        .collect()
-}
-
+/// A flight of calls of all kinds, several compasses and refused calls among them, whose filter is changed back and over
+/// after each call.
 #[test]
-fn a_flight_that_is_changed_over_has_the_same_bits() {
+fn back_and_over_after_each_call_of_a_flight_keeps_the_bits() {
     for alpha in [0.0, -0.0, 0.01, 0.5, 7.0] {
-        let plain = flight(alpha, None);
-        assert_eq!(plain.iter().filter(|(answer, _)| answer.0 == 0).count(), 16);
-        for change in 0..plain.len() {
-            assert_eq!(flight(alpha, Some(change)), plain);
+        let mut filter = started(&moving(), diagonal([0.02; STATES]));
+        filter.set_alphas(Alphas::all(alpha));
+        let calls = [calls(0.7), refused_calls(), calls(-0.4)];
+        for call in calls.into_iter().flatten() {
+            assert_eq!(call.on(&mut filter.0).0, call.code, "{}", call.name);
+            let before = bits(&filter.0);
+            filter = changed_back_and_over(&filter);
+            assert_eq!(bits(&filter.0), before, "{}", call.name);
         }
     }
 }

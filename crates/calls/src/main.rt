@@ -1,13 +1,14 @@
-// Makes one call of each kind on a filter, one refusal of each number that a call can give, each refusal of a scalar update, and an update by several
-// compasses with each kind of answer, and prints the answers.
+// Makes one call of each kind on a filter, one refusal of each number that a call can give, each refusal of a scalar update, an update by several
+// compasses with each kind of answer, and the conversions between one alpha and three, and prints the answers.
 #![tactic(auto)]
 
 use call_sheet::text::{MOST_ANSWER, answer_text};
 use drifters_compasses::compasses::{Tried, update_compasses};
 use drifters_entry::entry::{FILTER_LENGTH, START_LENGTH, filter_call, nav_state, start};
-use drifters_entry::layout::POSITION_ALPHA;
+use drifters_entry::layout::{POSITION_ALPHA, VELOCITY_ALPHA};
 use drifters_eqf::answer::Answer;
 use drifters_kind::kind::{Kind, STATE_LENGTH};
+use drifters_upgrade::upgrade::{ONE_ALPHA_LENGTH, downgrade, upgrade};
 use std::io;
 
 // Where gravity begins in a start, after its covariance.
@@ -176,7 +177,7 @@ fn each_kind(rt: &impl Print, run: &mut [f64]) -> io::Result<()> {
 }
 
 // One refusal of each number: too few numbers, a number that is infinite, a turn above 8, noise below 0, densities that overflow, and both ways
-// to have no direction. A refusal 6 is a call sheet's, one of 8 a conversion's.
+// to have no direction. A refusal 6 is a call sheet's, one of 8 a downgrade's.
 fn refusals(rt: &impl Print, run: &mut [f64]) -> io::Result<()> {
     call(rt, Kind::Propagate, run, &pair())?;
     call(
@@ -212,6 +213,19 @@ fn several_compasses(rt: &impl Print) -> io::Result<()> {
     call(rt, Kind::Direction, &mut copy, &pair())
 }
 
+// A filter that has just started, downgraded and upgraded, and then refused by 8, since one of its alphas is another. The last line is a direction on the
+// filter that was changed back and over: it has the answer of the line before the start.
+fn conversions(rt: &impl Print) -> io::Result<()> {
+    let mut run = [0.0; FILTER_LENGTH];
+    report(rt, "start", start(&mut run, &start_numbers()))?;
+    let mut one_alpha = [0.0; ONE_ALPHA_LENGTH];
+    report(rt, "downgrade", downgrade(&run, &mut one_alpha))?;
+    report(rt, "upgrade", upgrade(&one_alpha, &mut run))?;
+    run[VELOCITY_ALPHA] = 0.25;
+    report(rt, "downgrade", downgrade(&run, &mut one_alpha))?;
+    call(rt, Kind::Direction, &mut run, &pair())
+}
+
 // The alpha that a scalar update uses, 0.5 from the start, keeps its turn on this filter below 8: it is 0 for that refusal. The last call on it is an
 // update of the filter that the refusals left as it was.
 fn main(rt: HostRuntime) -> io::Result<()> {
@@ -223,5 +237,6 @@ fn main(rt: HostRuntime) -> io::Result<()> {
     run[POSITION_ALPHA] = 0.0;
     call(&rt, Kind::Scalar, &mut run, &scalar(100.0, 0.25))?;
     call(&rt, Kind::General, &mut run, &general())?;
-    several_compasses(&rt)
+    several_compasses(&rt)?;
+    conversions(&rt)
 }

@@ -27,7 +27,8 @@ most_readings = 8
 abbrev pub count_of : ℕ → ℕ
 count_of n = n / reading_length
 
--- the filter's run, the readings, from one to the most of them, and north with noise have their stated lengths, and the budget is at most the most
+-- the filter's run in a layout, the readings, from one to the most of them, and north with noise have their stated lengths, and the budget is at most the
+-- most
 abbrev pub compasses_fit_in : Layout → ℕ → ℕ → ℕ → ℕ → Bool
 compasses_fit_in l run readings north_noise budget =
     eqb run l.length && eqb (readings % reading_length) 0 && leb 1 (count_of readings) && leb (count_of readings) most_readings
@@ -106,7 +107,7 @@ abbrev pub selected : ℕ → List Float → BestTry → CompassesOutcome
 selected k run nothing = compasses_outcome (None k) run
 selected k run (reading i x left) = compasses_outcome (Chosen i x k) left
 
--- the update by the best of the first readings, as many as are tried; a refusal leaves the filter's run as it was
+-- the update, in a layout, by the best of the first readings, as many as are tried; a refusal leaves the filter's run as it was
 unfoldable pub update_compasses_in : Layout → List Float → List Float → List Float → ℕ → CompassesOutcome
 update_compasses_in l run readings north_noise budget =
     let k = tried budget (count_of (length readings)) in

@@ -1,4 +1,4 @@
--- The laws of signs, and the proofs of the demands and of the readings.
+-- The laws of signs, and the proofs of the demands, of the change-over and of the readings.
 pub mod Sizes
 pub mod Signs
 pub mod Upgrade

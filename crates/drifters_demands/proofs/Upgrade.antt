@@ -15,17 +15,17 @@ use Rattle.drifters_matrix.proofs.Matrix.Skips.{finite_at}
 use Rattle.drifters_eqf.specs.declared.filter.EqFilter.{EqFilter}
 use Rattle.drifters_entry.specs.Layout.{alpha_place, filter_length, one_alpha_length, alphas_of, from_run, to_run, SizedFilter}
 use Rattle.drifters_entry.proofs.Parts.{all_finite_append}
-use Rattle.drifters_entry.proofs.RoundTrips.{round_trips, alphas_after, sized_from_run}
+use Rattle.drifters_entry.proofs.RoundTrips.{round_trips, sized_from_run}
 use Rattle.drifters_upgrade.specs.Upgrade.{upgraded, downgraded}
 
 -- ---- a filter with one alpha, and its run changed over
 
--- the run of a filter that has one alpha
+-- the run of a filter with one alpha, changed over, is its run with the alpha three times
 pub to_run_upgraded : (f : EqFilter) (alpha : Float) → SizedFilter f → upgraded (to_run f (alpha ∷ [])) ≡ to_run f (alpha ∷ alpha ∷ alpha ∷ [])
 unfolding upgraded to_run
 to_run_upgraded f alpha sized =
     let is : get_or (to_run f (alpha ∷ [])) alpha_place nan ≡ alpha =
-    sym (get_or-drop alpha_place (to_run f (alpha ∷ [])) 0 nan) ∙ ap (λ (l : List Float). get_or l 0 nan) (alphas_after f (alpha ∷ []) sized) in
+    sym (get_or-drop alpha_place (to_run f (alpha ∷ [])) 0 nan) ∙ ap (λ (l : List Float). get_or l 0 nan) (round_trips.alphas_kept f (alpha ∷ []) sized) in
     rw is (append_assoc _ (alpha ∷ []) (alpha ∷ alpha ∷ []))
 
 module _ (run : List Float) (long : length run ≡ one_alpha_length) where
@@ -54,7 +54,7 @@ module _ (run : List Float) (long : length run ≡ one_alpha_length) where
   from_upgraded = ap from_run upgraded_is ∙ round_trips.filter_record (from_run run) _ sized
 
   pub alphas_three : alphas_of (upgraded run) ≡ alpha ∷ alpha ∷ alpha ∷ []
-  alphas_three = ap alphas_of upgraded_is ∙ alphas_after (from_run run) _ sized
+  alphas_three = ap alphas_of upgraded_is ∙ round_trips.alphas_kept (from_run run) _ sized
 
   -- alpha i of the three
   pub alpha_at : (i : ℕ) {x : Float} → get_or (alpha ∷ alpha ∷ alpha ∷ []) i nan ≡ x → get_or (upgraded run) (alpha_place + i) nan ≡ x

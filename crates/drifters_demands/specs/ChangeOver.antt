@@ -37,11 +37,11 @@ Floats run = (i : ℕ) → i < length run → T (fits binary64 (get_or run i nan
 -- there is a way back. Changing over commutes with every half turn, and so does the way back, refusals included.
 pub record ChangeOver : Type 0 where
   pub later : (run : List Float) (calls : List Call) → log_of (upgraded run) calls ≡ upgraded_log (log_in one_alpha run calls)
-  pub over_and_back :
+  pub downgrade_upgraded :
       (run written : List Float) → length run ≡ one_alpha_length → all_finite run ≡ true → length written ≡ one_alpha_length
       → downgrade (upgraded run) written ≡ outcome Fine (upgraded run) run
-  pub back_and_over :
+  pub upgrade_downgraded :
       (run written : List Float) → Floats run → (downgrade run written).answer ≡ Fine → (into : List Float) → length into ≡ filter_length
       → upgrade (downgrade run written).written into ≡ outcome Fine (downgrade run written).written run
-  pub turned_over : (s : Signs) (run written : List Float) → upgrade (half_turned s run) (half_turned s written) ≡ turn_outcome s (upgrade run written)
-  pub turned_back : (s : Signs) (run written : List Float) → downgrade (half_turned s run) (half_turned s written) ≡ turn_outcome s (downgrade run written)
+  pub upgrade_turned : (s : Signs) (run written : List Float) → upgrade (half_turned s run) (half_turned s written) ≡ turn_outcome s (upgrade run written)
+  pub downgrade_turned : (s : Signs) (run written : List Float) → downgrade (half_turned s run) (half_turned s written) ≡ turn_outcome s (downgrade run written)

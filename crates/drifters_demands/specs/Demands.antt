@@ -1,8 +1,8 @@
 -- The three demands, each a named statement. The proofs are in proofs/Demands/. Definitions and statements only.
--- They are about the definitions `call`, `update_compasses`, `start`, `upgrade`, `downgrade` and `read_into`, and of the code the contracts say it: the outcome of `filter_call` of
--- drifters_entry is `call` at its kind, that of `nav_state` is `call` at State, that of `start` is `start`; that of `update_compasses` of
--- drifters_compasses is `update_compasses`; those of `upgrade` and `downgrade` of drifters_upgrade are `upgrade` and `downgrade`; `read_sheet` and `run_sheet` of call_sheet leave what `read_into` and `sheet_text` say; square root, sine and
--- cosine are those of drifters_real.
+-- They are about the definitions `call`, `update_compasses`, `start`, `upgrade`, `downgrade` and `read_into`, and of the code the contracts say it: the
+-- outcome of `filter_call` of drifters_entry is `call` at its kind, that of `nav_state` is `call` at State, that of `start` is `start`; that of
+-- `update_compasses` of drifters_compasses is `update_compasses`; those of `upgrade` and `downgrade` of drifters_upgrade are `upgrade` and `downgrade`;
+-- `read_sheet` and `run_sheet` of call_sheet leave what `read_into` and `sheet_text` say; square root, sine and cosine are those of drifters_real.
 use Rattle.std.specs.Prelude.{ℕ, ◌+◌, ◌*◌, ◌<◌, ◌≡◌, ◌↔◌, Bool, true, false, not, ◌&&◌, ◌||◌, cond, eqb, length, get_or, Float, Some, Err}
 use mathlib.Core.List.{List, [], ◌∷◌, ◌++◌, map, Forall₂}
 use Rattle.std.specs.Float.{nan, ◌≤ᶠ◌, ◌<ᶠ◌}
@@ -220,8 +220,9 @@ pub data LinesOf : ℕ → List LogEntry → List ℕ → Type 0 where
   one_line : {i : ℕ} {kind : Kind} {v written left : List Float} {a : Answer} {es : List LogEntry} {text : List ℕ} → LinesOf (i + 1) es text
       → LinesOf i (record { called = kind_call kind v; answer = kind_answer a written; left = left } ∷ es) (line_text i kind a ++ text)
 
--- An accepted call of a kind comes to what it asks for, and so do a start, a change-over and the way back; an update by several compasses tries its first readings and chooses among
--- these, and how many keeps to its bounds; a sheet prints the lines of its log; the square root is the nearest f64; sine and cosine keep their bounds.
+-- An accepted call of a kind comes to what it asks for, and so do a start, a change-over and the way back; an update by several compasses tries its first
+-- readings and chooses among these, and how many keeps to its bounds; a sheet prints the lines of its log; the square root is the nearest f64; sine and
+-- cosine keep their bounds.
 pub record Demand2 : Type 0 where
   pub calls :
       (kind : Kind) (run v written : List Float) → first_of (checks kind run v written) ≡ 0

@@ -1,4 +1,4 @@
--- What a reader must believe above the code: logs of calls, the half turn, the three demands, and the starred readings.
+-- What a reader must believe above the code: logs of calls, the half turn, the three demands, the change-over, and the starred readings.
 pub mod Log
 pub mod Like
 pub mod Turn

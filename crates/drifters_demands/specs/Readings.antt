@@ -11,10 +11,11 @@ use Rattle.drifters_cholesky.specs.Cholesky.{Factor, none, lower, cholesky}
 use Rattle.drifters_lie.specs.Lie.{se3_tangent}
 use Rattle.drifters_adjoint.specs.Adjoint.{most_halvings, halvings}
 use Rattle.drifters_gcu.specs.Gcu.{beta, nis}
-use Rattle.drifters_entry.specs.Layout.{gravity_place, alpha_place}
+use Rattle.drifters_entry.specs.Layout.{gravity_place, alpha_place, three_alphas, one_alpha}
+use Rattle.drifters_entry.specs.Entry.{Request, refusal, propagation, measurement, estimate, request_of}
 use Rattle.drifters_upgrade.specs.Upgrade.{alphas_equal}
 use Rattle.drifters_kind.specs.declared.kind.Kind.{Kind}
-use Rattle.drifters_kind.specs.declared.kind.Kind.TheVariants.{Position, State, Scalar}
+use Rattle.drifters_kind.specs.declared.kind.Kind.TheVariants.{Position, Velocity, Direction, General, State, Scalar}
 use Rattle.drifters_compasses.specs.Compasses.{count_of, compasses_fit}
 use Rattle.drifters_demands.specs.Like.{signed, Signs, about_x, about_y, about_z, axis}
 use Rattle.drifters_demands.specs.Turn.{filter_signs, turned, turn_numbers, turn_north_noise}
@@ -62,6 +63,13 @@ tests_are tests stated = reads (map (λ b. cond b 1 0) tests) stated
 abbrev pub norm_of : ℕ → Float
 norm_of n = norm (splat (float n))
 
+-- the alpha that an update is given
+abbrev pub alpha_asked : Request → List Float
+alpha_asked (refusal n) = []
+alpha_asked (propagation u dt q) = []
+alpha_asked (measurement w m noise alpha) = alpha ∷ []
+alpha_asked estimate = []
+
 -- whether the alphas of a filter have equal bits
 abbrev pub equal_alphas : Float → Float → Float → Bool
 equal_alphas a b c = alphas_equal (replicate alpha_place plus_zero ++ a ∷ b ∷ c ∷ [])
@@ -76,6 +84,7 @@ readings u v w =
     let nine = float 0x4022_0000_0000_0000 in
     let sixteen = float 0x4030_0000_0000_0000 in
     let axes = one ∷ minus_one ∷ minus_one ∷ [] in
+    let asked_of : Kind → List Float = λ kind. alpha_asked (request_of kind (replicate alpha_place one ++ one ∷ two ∷ three ∷ []) (replicate 75 one)) in
     -- beta
     beta_is zero one
     ∷ beta_is one two
@@ -111,8 +120,11 @@ readings u v w =
     ∷ tests_are (compasses_fit 480 0 12 0 ∷ compasses_fit 480 4 12 0 ∷ compasses_fit 480 27 12 0 ∷ compasses_fit 480 3 12 9 ∷ []) (0 ∷ 0 ∷ 0 ∷ 0 ∷ [])
     ∷ tests_are (compasses_fit 478 3 12 0 ∷ compasses_fit 479 3 12 0 ∷ compasses_fit 481 3 12 0 ∷ compasses_fit 480 3 11 0 ∷ compasses_fit 480 3 13 0 ∷ []) (0 ∷ 0 ∷ 0 ∷ 0 ∷ 0 ∷ [])
     ∷ numbers_are (turn_north_noise about_x (replicate 13 one)) (axes ++ one ∷ minus_one ∷ minus_one ∷ minus_one ∷ one ∷ one ∷ minus_one ∷ one ∷ one ∷ one ∷ [])
-    -- the end of a filter: gravity turns, the three alphas do not; alphas that are equal, and those that are not, +0 and -0 among them
+    -- the end of a filter: gravity turns, the three alphas do not; where they stand; which each kind takes, of 1, 2 and 3; alphas that are equal, and those that
+    -- are not, +0 and -0 among them
     ∷ numbers_are (drop gravity_place (turned (filter_signs about_x) (replicate 480 one))) (axes ++ one ∷ one ∷ one ∷ [])
+    ∷ reads (three_alphas.position ∷ three_alphas.velocity ∷ three_alphas.direction ∷ three_alphas.length ∷ one_alpha.length ∷ []) (477 ∷ 478 ∷ 479 ∷ 480 ∷ 478 ∷ [])
+    ∷ numbers_are (asked_of Position ++ asked_of Velocity ++ asked_of Direction ++ asked_of General ++ asked_of Scalar) (one ∷ two ∷ three ∷ one ∷ one ∷ [])
     ∷ tests_are (equal_alphas zero zero zero ∷ equal_alphas one two one ∷ equal_alphas one one two ∷ equal_alphas zero (float 0x8000_0000_0000_0000) zero ∷ []) (1 ∷ 0 ∷ 0 ∷ 0 ∷ [])
     -- a norm: 0 by underflow, at the largest number whose square is 0; above 0 at the next number; infinite at 1e200
     ∷ numbers_are (norm_of 0x1e56_a09e_667f_3bcc ∷ norm_of 0x1e56_a09e_667f_3bcd ∷ norm_of 0x6974_e718_d7d7_625a ∷ []) (zero ∷ float 0x1e6b_b67a_e858_4caa ∷ inf false ∷ [])

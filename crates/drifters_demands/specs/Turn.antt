@@ -36,7 +36,7 @@ noise_signs s = matrix_signs 3 (axis s) (axis s)
 abbrev pub north_noise_signs : Signs → ℕ → Bool
 north_noise_signs s = then_signs 3 (axis s) (noise_signs s)
 
--- a filter: rows of A; velocity, position, gamma and delta; rows of E; rows and columns of the covariance; gravity; alpha
+-- a filter: rows of A; velocity, position, gamma and delta; rows of E; rows and columns of the covariance; gravity; the alphas do not turn
 abbrev pub filter_signs : Signs → ℕ → Bool
 filter_signs s =
     then_signs 9 (row_signs s) (then_signs 15 (axis s) (then_signs 9 (row_signs s) (then_signs 441 (matrix_signs 21 (axis s) (axis s)) (then_signs 3 (axis s) plain))))

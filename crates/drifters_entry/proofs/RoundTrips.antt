@@ -138,7 +138,7 @@ module _ (f : EqFilter) (alphas : List Float) (sized : SizedFilter f) where
   sigma_at k h = at_after (to_run f alphas) (rest f alphas) sigma_place k after_state ∙ get_or-append f.sigma.«data» _ nan k (rw sized.sigma h)
 
   -- the alphas after gravity
-  pub alphas_after : alphas_of (to_run f alphas) ≡ alphas
+  alphas_after : alphas_of (to_run f alphas) ≡ alphas
   alphas_after = sym (drop-drop 3 gravity_place (to_run f alphas)) ∙ ap (drop 3) after_sigma
 
   -- gravity in the run
@@ -156,4 +156,4 @@ module _ (f : EqFilter) (alphas : List Float) (sized : SizedFilter f) where
       }
 
 pub round_trips : RoundTrips
-round_trips = record { filter_run = filter_run; filter_record = filter_record; state_run = state_run; state_record = state_record }
+round_trips = record { filter_run = filter_run; filter_record = filter_record; alphas_kept = alphas_after; state_run = state_run; state_record = state_record }

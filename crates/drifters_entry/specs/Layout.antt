@@ -135,5 +135,6 @@ pub record SizedState (xi : State) : Type 0 where
 pub record RoundTrips : Type 0 where
   pub filter_run : (run : List Float) → alpha_place ≤ length run → to_run (from_run run) (alphas_of run) ≡ run
   pub filter_record : (f : EqFilter) (alphas : List Float) → SizedFilter f → from_run (to_run f alphas) ≡ f
+  pub alphas_kept : (f : EqFilter) (alphas : List Float) → SizedFilter f → alphas_of (to_run f alphas) ≡ alphas
   pub state_run : (run : List Float) → length run ≡ state_length → state_to_run (state_from_run run) ≡ run
   pub state_record : (xi : State) → SizedState xi → state_from_run (state_to_run xi) ≡ xi

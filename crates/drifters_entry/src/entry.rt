@@ -36,8 +36,8 @@ pub const START_LENGTH: usize = GRAVITY + 3;
 const START_ALPHA: f64 = 0.5;
 
 // What a call asks of a filter: a propagation by an input over a time, with its noise; an update by one measured number, as its output row,
-// innovation and variance, or by three with their noise, each with the alpha for it; or the estimate. It is an enum, and `call` a `match` of it, so that one line makes the update
-// by three numbers for four kinds: it stands once in the compiled code.
+// innovation and variance, or by three with their noise, each with the alpha for it; or the estimate. It is an enum, and `call` a `match` of it, so
+// that one line makes the update by three numbers for four kinds: it stands once in the compiled code.
 #[derive(Clone, Copy)]
 pub enum Asked {
     Propagate(Input, f64, ProcessNoise),

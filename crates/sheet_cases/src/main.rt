@@ -6,6 +6,7 @@ use call_sheet::sheet::MOST_BYTES;
 use drifters_entry::entry::FILTER_LENGTH;
 use drifters_eqf::answer::Refusal;
 use drifters_kind::kind::Kind;
+use drifters_upgrade::upgrade::ONE_ALPHA_LENGTH;
 use sheet_file::{counted, read_file};
 use std::alloc::Allocator;
 use std::io;
@@ -16,6 +17,9 @@ const FILTER_BYTES: usize = 8 * FILTER_LENGTH;
 
 // The bytes of a sheet of a filter alone: a count, a table of one entry, the filter.
 const ALONE: usize = 4 + 8 + FILTER_BYTES;
+
+// The same of a filter with one alpha, which versions up to 0.6.0 have.
+const ONE_ALPHA: usize = 4 + 8 + 8 * ONE_ALPHA_LENGTH;
 
 // Where the body of the one call of a sheet begins.
 const BODY: usize = 4 + 8 * 2 + FILTER_BYTES;
@@ -95,12 +99,18 @@ fn report_zeros<R: Print, A: Allocator>(
     report(rt, name, &bytes)
 }
 
-// A filter of zeros alone, by its entry.
-fn filter_entry<R: Print + Alloc>(rt: &R, name: &str, kind: u32, offset: usize) -> io::Result<()> {
+// A filter of zeros alone, by its entry, in a file of `length` bytes.
+fn filter_entry<R: Print + Alloc>(
+    rt: &R,
+    name: &str,
+    kind: u32,
+    offset: usize,
+    length: usize,
+) -> io::Result<()> {
     let mut bytes = Vec::new(rt.alloc());
     push(&mut bytes, 1)?;
     push_entry(&mut bytes, kind, offset)?;
-    report_zeros(rt, name, bytes, ALONE)
+    report_zeros(rt, name, bytes, length)
 }
 
 // A filter of zeros and one call, its body at `offset`, in a file of `length` bytes.
@@ -216,8 +226,9 @@ fn main(rt: HostRuntime) -> io::Result<()> {
     states(&rt, "a filter alone", 1)?;
     states(&rt, "256 entries", 256)?;
     states(&rt, "257 entries", 257)?;
-    filter_entry(&rt, "a filter of kind 1", 1, 12)?;
-    filter_entry(&rt, "a filter at 13", FILTER, 13)?;
+    filter_entry(&rt, "a filter of kind 1", 1, 12, ALONE)?;
+    filter_entry(&rt, "a filter at 13", FILTER, 13, ALONE)?;
+    filter_entry(&rt, "a filter with one alpha", FILTER, 12, ONE_ALPHA)?;
     one_calls(&rt)?;
     long(&rt, "the longest sheet", 111)?;
     long(&rt, "a longer one", 112)?;

@@ -3,6 +3,7 @@ use drifters_eqf::filter::EqFilter;
 use drifters_eqf::group::State;
 use drifters_eqf::linear::DIM;
 use inputs::{flown, sheet, Compasses, Flight};
+use original::kinds;
 use original::places::{FILTER, GENERAL_NOISE, INNOVATION, MOST_READINGS, READING, STATE};
 use original::{filter_of, plain_sheet, Answer, Call};
 use std::hint::black_box;
@@ -39,16 +40,14 @@ const CALLS: usize = 255;
 const MOST_TEXT: usize = 5865;
 
 const NAMES: [(u32, &str); 7] = [
-    (1, "propagate"),
-    (2, "update_position"),
-    (3, "update_velocity"),
-    (4, "update_direction"),
-    (5, "update"),
-    (6, "nav_state"),
-    (7, "update_scalar"),
+    (kinds::PROPAGATE, "propagate"),
+    (kinds::POSITION, "update_position"),
+    (kinds::VELOCITY, "update_velocity"),
+    (kinds::DIRECTION, "update_direction"),
+    (kinds::GENERAL, "update"),
+    (kinds::STATE, "nav_state"),
+    (kinds::SCALAR, "update_scalar"),
 ];
-/// The kind of a direction call.
-const DIRECTION: u32 = 4;
 /// A scalar update whose row has no zeros, as the rows of the general update have none.
 const DENSE: &str = "update_scalar, dense row";
 /// Updates by so many compasses, and as many tries.
@@ -80,11 +79,11 @@ fn reset(filter: &mut EqFilter, first: &EqFilter) {
 fn of_port(kind: u32, first: [f64; FILTER], numbers: Vec<f64>) -> Measured {
     let (mut run, mut state, mut nis) = (first, [0.0; STATE], [0.0]);
     match kind {
-        1 => Box::new(move || {
+        kinds::PROPAGATE => Box::new(move || {
             run.copy_from_slice(&first);
             black_box(port::propagate(black_box(&mut run), black_box(&numbers)));
         }),
-        6 => Box::new(move || {
+        kinds::STATE => Box::new(move || {
             black_box(port::nav_state(black_box(&run), black_box(&mut state)));
         }),
         _ => Box::new(move || {
@@ -122,7 +121,7 @@ fn compasses_of_port(first: [f64; FILTER], call: Compasses) -> Measured {
 
 /// The direction call by each reading that is tried.
 fn directions(call: &Compasses) -> Vec<Call> {
-    let direction = |reading: &[f64]| Call::read(DIRECTION, &[reading, &call.north_noise].concat());
+    let direction = |reading: &[f64]| Call::read(kinds::DIRECTION, &[reading, &call.north_noise].concat());
     call.readings.chunks(READING).take(call.budget).map(direction).collect()
 }
 
@@ -153,7 +152,7 @@ fn apply_best(directions: &[Call], filter: &mut EqFilter) -> Option<(usize, f64)
 
 /// Whether both sides apply the same reading, with the same NIS.
 fn choose_alike(mut run: [f64; FILTER], call: &Compasses) -> bool {
-    let applied = apply_best(&directions(call), &mut filter_of(DIRECTION, &run));
+    let applied = apply_best(&directions(call), &mut filter_of(kinds::DIRECTION, &run));
     let (mut counts, mut nis) = ([0; 2], [0.0]);
     let code = port::update_compasses(&mut run, &call.readings, &call.north_noise, call.budget, &mut counts, &mut nis);
     code == 0 && applied == Some((counts[1], nis[0]))
@@ -164,7 +163,7 @@ fn compasses_rows() -> Vec<Row> {
     let row = |(count, name)| {
         let call = flown(&mut flight, count, count);
         assert!(choose_alike(run, &call));
-        Row { name, original: compasses_of_original(filter_of(DIRECTION, &run), &call), port: compasses_of_port(run, call) }
+        Row { name, original: compasses_of_original(filter_of(kinds::DIRECTION, &run), &call), port: compasses_of_port(run, call) }
     };
     COMPASSES.into_iter().map(row).collect()
 }
@@ -196,7 +195,7 @@ fn first_of(general: &[f64]) -> Vec<f64> {
 pub fn all() -> Vec<Row> {
     let (mut flight, run) = flight();
     let mut calls: Vec<_> = NAMES.into_iter().map(|(kind, name)| (kind, name, flight.call(kind))).collect();
-    calls.push((7, DENSE, first_of(&flight.call(5))));
+    calls.push((kinds::SCALAR, DENSE, first_of(&flight.call(kinds::GENERAL))));
     let row = |(kind, name, numbers): (u32, _, Vec<f64>)| Row {
         name,
         original: of_original(kind, filter_of(kind, &run), &numbers),

@@ -1,10 +1,9 @@
-//! Which alphas the updates meet, and how many of them tell the three apart.
+//! Which alphas the updates meet, and how many of these updates would leave another filter by another alpha.
 use drifters_eqf::group::State;
-use original::places::POSITION_ALPHA;
-use original::{filter_with, numbers_of, Alphas, Answer, Call};
+use original::places::{ALPHAS, POSITION_ALPHA};
+use original::{all_finite, filter_with, numbers_of, Alphas, Answer, Call};
 
-/// How many alphas a filter has, and their sensors in order. General and scalar updates use the first.
-const ALPHAS: usize = 3;
+/// The sensors of the alphas, in order. General and scalar updates use the first.
 const SENSORS: [&str; ALPHAS] = ["position", "velocity", "direction"];
 
 /// What is counted of the alpha that an update uses, and of all three.
@@ -19,18 +18,18 @@ const CASES: [Case; 11] = [
     ("1", |alpha, _| alpha == 1.0),
     ("beside 1", |alpha, _| alpha == 1f64.next_up() || alpha == 1f64.next_down()),
     ("above 1", |alpha, _| alpha > 1.0),
-    ("of 1e300 or more, or -1e300", |alpha, _| alpha.is_finite() && alpha.abs() >= 1e300),
+    ("1e300 or more in size", |alpha, _| alpha.is_finite() && alpha.abs() >= 1e300),
     ("not finite", |alpha, _| !alpha.is_finite()),
-    ("another one not finite", |alpha, alphas| alpha.is_finite() && alphas.iter().any(|x| !x.is_finite())),
+    ("another one not finite", |alpha, alphas| alpha.is_finite() && !all_finite(alphas)),
 ];
 
-/// How many updates of each sensor met each case; how many of those accepted have another alpha beside theirs, and how many of these leave another
-/// filter by it.
+/// How many updates of each sensor met each case; how many of those accepted have an alpha beside theirs that differs from it, and how many of these
+/// would leave another filter by such a one.
 #[derive(Default)]
 pub struct AlphaTally {
     cases: [[u64; ALPHAS]; CASES.len()],
     beside: [u64; ALPHAS],
-    told: [u64; ALPHAS],
+    differing: [u64; ALPHAS],
 }
 
 impl AlphaTally {
@@ -39,11 +38,11 @@ impl AlphaTally {
     }
 
     fn rows(&self) -> impl Iterator<Item = &[u64; ALPHAS]> {
-        self.cases.iter().chain([&self.beside, &self.told])
+        self.cases.iter().chain([&self.beside, &self.differing])
     }
 
     fn rows_mut(&mut self) -> impl Iterator<Item = &mut [u64; ALPHAS]> {
-        self.cases.iter_mut().chain([&mut self.beside, &mut self.told])
+        self.cases.iter_mut().chain([&mut self.beside, &mut self.differing])
     }
 
     /// Counts an update of a kind on a filter's run. `left` is what it leaves where it is accepted.
@@ -59,7 +58,7 @@ impl AlphaTally {
         let mut others = alphas.iter().filter(|other| other.to_bits() != alpha.to_bits()).peekable();
         if others.peek().is_some() {
             self.beside[sensor] += 1;
-            self.told[sensor] += u64::from(others.any(|other| leaves_another(&Call::read(kind, numbers), run, *other, left)));
+            self.differing[sensor] += u64::from(others.any(|other| leaves_another(&Call::read(kind, numbers), run, *other, left)));
         }
     }
 

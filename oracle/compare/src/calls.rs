@@ -8,8 +8,9 @@ use crate::lent::{Lent, START};
 use drifters_core::math::Vec3;
 use inputs::norms::LEAST_NORMS;
 use inputs::{biased, log, rounded_away, start, Flight, Manner, Numbers};
+use original::kinds;
 use original::places::{DIAGONAL_STEP, FILTER, GRAVITY, POSITION_ALPHA, SIGMA};
-use original::{filter_of, is_update, propagated_unedited, Call};
+use original::{all_finite, filter_of, is_update, is_update_of_three, propagated_unedited, Call};
 
 /// How many flights, and how many calls each has.
 const FLIGHTS: u64 = 150;
@@ -108,13 +109,13 @@ impl Tally {
         if is_update(kind) && expected == 0 && theirs.result[0] < 0.0 {
             self.negative += 1;
         }
-        if kind == 4 && expected == 0 {
+        if kind == kinds::DIRECTION && expected == 0 {
             self.count_norms(&lent.numbers);
         }
-        if kind == 1 && matches!(expected, 0 | 5) {
+        if kind == kinds::PROPAGATE && matches!(expected, 0 | 5) {
             self.count_edited(&lent, expected == 0, &theirs.run);
         }
-        if (2..=5).contains(&kind) && !matches!(expected, 1 | NULL) {
+        if is_update_of_three(kind) && !matches!(expected, 1 | NULL) {
             self.read += 1;
             self.misread += u64::from(!Call::read(kind, &lent.numbers).is_read_alike(&filter_of(kind, &lent.run)));
         }
@@ -134,7 +135,7 @@ impl Tally {
     /// Counts a propagation that the original unedited leaves otherwise, or that it leaves finite only with the edit, or only without.
     fn count_edited(&mut self, lent: &Lent, accepted: bool, after: &[f64]) {
         let unedited = propagated_unedited(&lent.run, &lent.numbers);
-        let finite = unedited.iter().all(|x| x.is_finite());
+        let finite = all_finite(&unedited);
         self.with_alone += u64::from(accepted && !finite);
         self.without_alone += u64::from(!accepted && finite);
         if !accepted || !finite {
@@ -212,7 +213,7 @@ fn shows_the_edit() -> bool {
 fn other_length(n: &mut Numbers, kind: u32, lent: &mut Lent) {
     let run = match n.below(3) {
         0 => &mut lent.run,
-        1 if kind != 6 => &mut lent.numbers,
+        1 if kind != kinds::STATE => &mut lent.numbers,
         _ if !lent.result.is_empty() => &mut lent.result,
         _ => &mut lent.run,
     };

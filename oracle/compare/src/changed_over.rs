@@ -4,7 +4,7 @@ use crate::in_threads;
 use crate::lent::{same, Conversion, Lent, LentCompasses, LentConversion};
 use inputs::{compasses, flown, one_alpha_log, spoil, Compasses, Flight, Manner, Numbers};
 use original::places::{FILTER, MOST_READINGS, ONE_ALPHA, POSITION_ALPHA};
-use original::{call_with, start, written_length, Alphas};
+use original::{all_finite, call_with, start, written_length, Alphas};
 
 /// How many flights there are, how many calls each has before it is changed over, and how many after.
 const FLIGHTS: u64 = 60;
@@ -62,7 +62,7 @@ impl Filter {
     /// Changes a filter over.
     fn new(n: &mut Numbers, one_alpha: Vec<f64>) -> Self {
         let mut filter = Self { theirs: one_alpha, ours: Vec::new(), tally: Tally::default() };
-        let is_blank = filter.theirs.iter().any(|x| !x.is_finite());
+        let is_blank = !all_finite(&filter.theirs);
         let (code, ours) = converted(n, Conversion::Upgrade, &filter.theirs);
         filter.ours = ours;
         filter.tally.filters += u64::from(code == 0);
@@ -104,7 +104,7 @@ impl Filter {
     }
 
     /// Changes the port's filter back and over again. Between the two it is the original's.
-    fn back(&mut self, n: &mut Numbers) {
+    fn downgrade_and_upgrade(&mut self, n: &mut Numbers) {
         let (down, one_alpha) = converted(n, Conversion::Downgrade, &self.ours);
         let (up, ours) = converted(n, Conversion::Upgrade, &one_alpha);
         self.ours = ours;
@@ -141,7 +141,7 @@ fn flight(seed: u64) -> Tally {
             filter.compasses(call);
         }
         if n.one_in(16) {
-            filter.back(n);
+            filter.downgrade_and_upgrade(n);
         }
     }
     filter.tally
@@ -162,7 +162,7 @@ fn any_log(seed: u64) -> Tally {
             filter.compasses(call);
         }
         if n.one_in(16) {
-            filter.back(n);
+            filter.downgrade_and_upgrade(n);
         }
     }
     filter.tally

@@ -3,7 +3,7 @@ use crate::in_threads;
 use crate::lent::{Lent, LentCompasses, START};
 use inputs::{compasses, flown, log, spoil, Compasses, Flight, Manner, Numbers};
 use original::places::{DIRECTION_ALPHA, FILTER, MOST_READINGS, ONE_ALPHA, POSITION_ALPHA, READING};
-use original::{Answer, Tries};
+use original::{all_finite, Answer, Tries};
 
 /// How many flights, how many calls each has before the first compasses, and how many with compasses after each.
 const FLIGHTS: u64 = 60;
@@ -97,7 +97,7 @@ const CASES: [Case; 24] = [
     ("  refused 5", |made| made.has_refused(5)),
     ("  refused 7", |made| made.has_refused(7)),
     ("readings past the tried", |made| !made.left_out().is_empty()),
-    ("  not finite", |made| made.left_out().iter().any(|x| !x.is_finite())),
+    ("  not finite", |made| !all_finite(made.left_out())),
 ];
 
 fn is_null(answer: Answer) -> bool {
@@ -110,7 +110,7 @@ const REFUSALS: [&str; 3] = ["refused 1", "refused 2, filter", "refused 2, north
 fn refusal(number: u32, lent: &LentCompasses) -> usize {
     match number {
         1 => 0,
-        _ if lent.run.iter().all(|x| x.is_finite()) => 2,
+        _ if all_finite(&lent.run) => 2,
         _ => 1,
     }
 }

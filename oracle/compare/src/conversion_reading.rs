@@ -1,10 +1,7 @@
 //! The conversions between a filter with one alpha and one with an alpha for each sensor, read from the request a second time, apart from the port.
 //! Each answers 0 or the number of its refusal.
+use original::all_finite;
 use original::places::{FILTER, ONE_ALPHA, START};
-
-fn is_blank(numbers: &[f64]) -> bool {
-    !numbers.iter().all(|x| x.is_finite())
-}
 
 /// The numbers of a filter with one alpha, with that alpha in each place of one.
 pub fn with_three(one_alpha: &[f64]) -> Vec<f64> {
@@ -17,7 +14,7 @@ pub fn upgrade(one_alpha: &[f64], filter: &mut [f64]) -> u32 {
     if (one_alpha.len(), filter.len()) != (ONE_ALPHA, FILTER) {
         return 1;
     }
-    if is_blank(one_alpha) {
+    if !all_finite(one_alpha) {
         return 2;
     }
     filter.copy_from_slice(&with_three(one_alpha));
@@ -28,7 +25,7 @@ pub fn downgrade(filter: &[f64], one_alpha: &mut [f64]) -> u32 {
     if (filter.len(), one_alpha.len()) != (FILTER, ONE_ALPHA) {
         return 1;
     }
-    if is_blank(filter) {
+    if !all_finite(filter) {
         return 2;
     }
     let (alphas, alpha) = (&filter[START..], filter[START].to_bits());

@@ -3,7 +3,8 @@ use crate::conversion_reading::{downgrade, upgrade, with_three};
 use crate::in_threads;
 use crate::lent::{same, Conversion, LentConversion};
 use inputs::{one_alpha, one_alpha_log, Manner, Numbers, BLANKS};
-use original::places::{FILTER, ONE_ALPHA, POSITION_ALPHA};
+use original::all_finite;
+use original::places::{ALPHAS, FILTER, ONE_ALPHA, POSITION_ALPHA};
 
 /// How many conversions of each way are compared.
 const OF_EACH_WAY: u64 = 150_000;
@@ -13,16 +14,15 @@ const NAMES: [&str; 2] = ["upgrade", "downgrade"];
 /// The answers, and what stands for each: 0, or the number of a refusal.
 const ANSWERS: [(&str, u32); 4] = [("accepted", 0), ("refused 1", 1), ("2", 2), ("8", 8)];
 
-/// The bits of an alpha, and how many alphas a filter has.
+/// The bits of an alpha.
 const BITS: usize = 64;
-const ALPHAS: usize = 3;
 
 /// What is counted: of the filter that is read, and of the answer.
 type Case = (&'static str, fn(&[f64], u32) -> bool);
 
 const CASES: [Case; 8] = [
-    ("refused 1, a number not finite", |read, answer| answer == 1 && !are_finite(read)),
-    ("refused 2 by an alpha alone", |read, answer| answer == 2 && are_finite(&read[..POSITION_ALPHA])),
+    ("refused 1, a number not finite", |read, answer| answer == 1 && !all_finite(read)),
+    ("refused 2 by an alpha alone", |read, answer| answer == 2 && all_finite(&read[..POSITION_ALPHA])),
     ("refused 2, alphas unequal", |read, answer| answer == 2 && unequal_bits(read) > 0),
     ("refused 2, alphas equal, not finite", |read, answer| answer == 2 && read.len() == FILTER && are_blank_and_equal(read)),
     ("refused 8 by one bit", |read, answer| answer == 8 && unequal_bits(read) == 1),
@@ -30,10 +30,6 @@ const CASES: [Case; 8] = [
     ("upgraded with -0", |read, answer| answer == 0 && read.len() == ONE_ALPHA && is_minus_zero(read)),
     ("downgraded with -0", |read, answer| answer == 0 && read.len() == FILTER && is_minus_zero(read)),
 ];
-
-fn are_finite(numbers: &[f64]) -> bool {
-    numbers.iter().all(|x| x.is_finite())
-}
 
 fn are_blank_and_equal(run: &[f64]) -> bool {
     !run[POSITION_ALPHA].is_finite() && unequal_bits(run) == 0
@@ -189,10 +185,10 @@ impl Tally {
         let least = |counts: &mut dyn Iterator<Item = &u64>| counts.min().copied().expect("a count");
         let (blank, bit) = (least(&mut self.blanks.iter().flatten()), least(&mut self.bits.as_flattened().iter()));
         assert!(blank > 0 && bit > 0, "a place or a bit was not met");
-        println!(
-            "{conversions} conversions, {} of them upgrades that were taken back, each number the only one not finite in {blank} or more, each bit of each alpha the only one unequal in {bit} or more; {} differ",
-            self.returned, self.differ
-        );
+        let returned = format!("{} of them upgrades that were taken back", self.returned);
+        let blanks = format!("each number the only one not finite in {blank} or more");
+        let bits = format!("each bit of each alpha the only one unequal in {bit} or more");
+        println!("{conversions} conversions, {returned}, {blanks}, {bits}; {} differ", self.differ);
     }
 }
 

@@ -5,6 +5,7 @@ use crate::lent::{same, Conversion, Lent, LentCompasses, LentConversion};
 use drifters_eqf::linear::DIM;
 use inputs::{biased, compasses, log, Compasses, Log, Manner, Numbers};
 use original::places::{E, GAMMA, GENERAL_NOISE, GRAVITY, INNOVATION, MOST_READINGS, POSITION_ALPHA, SCALAR_INNOVATION, SIGMA, VELOCITY};
+use original::{is_update_of_three, kinds};
 
 const LOGS: u64 = 36_000;
 const LOG_CALLS: usize = 24;
@@ -53,16 +54,16 @@ fn turned_filter(s: &Signs, run: &[f64]) -> Vec<f64> {
 fn turned_call(s: &Signs, kind: u32, numbers: &[f64]) -> Vec<f64> {
     let mut turned = numbers.to_vec();
     match kind {
-        2 | 3 => turn_rows(s, 1, &mut turned[..3]),
-        4 => turn_rows(s, 1, &mut turned[3..6]),
-        5 => {
+        kinds::POSITION | kinds::VELOCITY => turn_rows(s, 1, &mut turned[..3]),
+        kinds::DIRECTION => turn_rows(s, 1, &mut turned[3..6]),
+        kinds::GENERAL => {
             turn_both(s, DIM, &mut turned[..INNOVATION]);
             turn_rows(s, 1, &mut turned[INNOVATION..GENERAL_NOISE]);
         }
-        7 => turn_rows(s, 1, &mut turned[..SCALAR_INNOVATION]),
+        kinds::SCALAR => turn_rows(s, 1, &mut turned[..SCALAR_INNOVATION]),
         _ => {}
     }
-    if (2..=5).contains(&kind) {
+    if is_update_of_three(kind) {
         let noise = turned.len() - 9;
         turn_both(s, 3, &mut turned[noise..]);
     }
@@ -81,7 +82,7 @@ fn turned_compasses(s: &Signs, call: &Compasses) -> Compasses {
 /// In a state answer only the pose turns, and a NIS does not.
 fn turned_result(s: &Signs, kind: u32, result: &[f64]) -> Vec<f64> {
     let mut result = result.to_vec();
-    if kind == 6 {
+    if kind == kinds::STATE {
         turn_pose(s, &mut result);
     }
     result
@@ -157,7 +158,7 @@ fn compare_log(log: &Log, s: &Signs) -> Tally {
     let mut tally = Tally::default();
     for (kind, numbers) in &log.calls {
         let (codes, same) = twins.call(*kind, numbers);
-        let (scalars, null) = (u64::from(*kind == 7), u64::from(codes == (7, 7)));
+        let (scalars, null) = (u64::from(*kind == kinds::SCALAR), u64::from(codes == (7, 7)));
         tally = tally.add(Tally { calls: 1, scalars, null, differ: u64::from(!same) });
     }
     tally

@@ -1,5 +1,6 @@
-//! A call with all its lent runs, made on either side.
+//! A call with all its lent runs, made on either side; a conversion with its two, made on the port alone.
 use inputs::Compasses;
+use original::kinds;
 use original::places::{FILTER, MOST_READINGS, ONE_ALPHA, STATE};
 use original::{is_update, Alphas, Answer, Tries, LAST_KIND};
 
@@ -23,8 +24,8 @@ impl Lent {
     /// Makes the call on the port. Answers 0 or the refusal's number.
     pub fn on_port(&mut self, kind: u32) -> u32 {
         match kind {
-            1 => port::propagate(&mut self.run, &self.numbers),
-            6 => port::nav_state(&self.run, &mut self.result),
+            kinds::PROPAGATE => port::propagate(&mut self.run, &self.numbers),
+            kinds::STATE => port::nav_state(&self.run, &mut self.result),
             START => port::start(&mut self.run, &self.numbers),
             _ => port::update(kind, &mut self.run, &self.numbers, &mut self.result),
         }
@@ -116,6 +117,7 @@ impl LentCompasses {
     }
 }
 
+/// The way of a conversion: to a filter with an alpha for each sensor, or back to one with one alpha.
 #[derive(Clone, Copy)]
 pub enum Conversion {
     Upgrade,
@@ -165,7 +167,7 @@ pub fn same(x: &[f64], y: &[f64]) -> bool {
 pub fn result_length(kind: u32) -> usize {
     match kind {
         _ if is_update(kind) => 1,
-        6 => STATE,
+        kinds::STATE => STATE,
         _ => 0,
     }
 }

@@ -1,5 +1,6 @@
 //! Alphas of filters: from 0 to 1 and near it, at the limits and beyond.
 use crate::{Manner, Numbers};
+use original::places::ALPHAS;
 
 /// Zeros of both signs, 1, and numbers far outside 0..1 or hardly so.
 const LIMITS: [f64; 7] = [0.0, -0.0, 1.0, 0.5, -1e300, 1e300, -5e-324];
@@ -20,9 +21,9 @@ pub fn one_alpha(n: &mut Numbers, manner: Manner) -> f64 {
 }
 
 /// An alpha for each sensor; in most filters they differ. With turns at 8 at least two are 0.
-pub fn alphas(n: &mut Numbers, manner: Manner) -> [f64; 3] {
-    let place = n.below(3);
-    let mut alphas = if n.one_in(8) { [one_alpha(n, manner); 3] } else { core::array::from_fn(|_| one_alpha(n, manner)) };
+pub fn alphas(n: &mut Numbers, manner: Manner) -> [f64; ALPHAS] {
+    let place = n.below(ALPHAS);
+    let mut alphas = if n.one_in(8) { [one_alpha(n, manner); ALPHAS] } else { core::array::from_fn(|_| one_alpha(n, manner)) };
     match n.below(8) {
         0 => alphas[place] = n.one_of(&BESIDE),
         1 if manner == Manner::Damaged && n.one_in(2) => alphas[place] = n.one_of(&BLANKS),

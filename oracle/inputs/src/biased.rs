@@ -3,10 +3,8 @@ use crate::log::{covariance, rotation};
 use crate::{Log, Manner, Numbers};
 use drifters_core::math::Vec3;
 use original::filter_of;
+use original::kinds::PROPAGATE;
 use original::places::{DT, E, FILTER, GAMMA, PROPAGATION, SIGMA, VELOCITY};
-
-/// The kind of a propagation.
-const PROPAGATE: u32 = 1;
 
 /// How many powers of ten, from 1 on, the size of each half of the bias is one of.
 const POWERS: usize = 20;

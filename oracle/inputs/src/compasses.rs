@@ -5,10 +5,8 @@ use crate::norms::{long, null};
 use crate::{Flight, Numbers};
 use drifters_core::math::{Cholesky, Mat3, Vec3, Vector};
 use original::filter_of;
+use original::kinds::DIRECTION;
 use original::places::{MOST_READINGS, READING};
-
-/// The kind of a direction call.
-const DIRECTION: u32 = 4;
 
 /// How many vectors are tried to find one whose NIS is below 0.
 const TRIALS: usize = 200;

@@ -1,7 +1,8 @@
 //! A flight of a swinging camera mount: its true motion, and the calls that its sensors give.
 use crate::Numbers;
 use drifters_core::math::{Mat3, Quat, Vec3};
-use original::places::{INNOVATION, SCALAR, SCALAR_INNOVATION, VARIANCE};
+use original::kinds;
+use original::places::{ALPHAS, INNOVATION, SCALAR, SCALAR_INNOVATION, VARIANCE};
 
 const DT: f64 = 0.01;
 const GRAVITY: Vec3 = Vec3::new(0.0, 0.0, 9.81);
@@ -91,9 +92,9 @@ impl Flight {
     }
 
     /// Alphas for its sensors: one for all, or one for each.
-    pub fn alphas(&mut self) -> [f64; 3] {
+    pub fn alphas(&mut self) -> [f64; ALPHAS] {
         if self.numbers.one_in(4) {
-            [self.numbers.unit(); 3]
+            [self.numbers.unit(); ALPHAS]
         } else {
             core::array::from_fn(|_| self.numbers.unit())
         }
@@ -108,13 +109,13 @@ impl Flight {
     pub fn next_call(&mut self) -> (u32, Vec<f64>) {
         self.calls += 1;
         let kind = match self.calls % 30 {
-            3 | 13 | 23 => 2,
-            6 | 16 | 26 => 3,
-            1 | 9 | 14 | 19 | 24 | 28 => 4,
-            20 if self.calls % 90 == 20 => 5,
-            10 => 6,
-            12 | 27 => 7,
-            _ => 1,
+            3 | 13 | 23 => kinds::POSITION,
+            6 | 16 | 26 => kinds::VELOCITY,
+            1 | 9 | 14 | 19 | 24 | 28 => kinds::DIRECTION,
+            20 if self.calls % 90 == 20 => kinds::GENERAL,
+            10 => kinds::STATE,
+            12 | 27 => kinds::SCALAR,
+            _ => kinds::PROPAGATE,
         };
         (kind, self.call(kind))
     }
@@ -122,26 +123,26 @@ impl Flight {
     /// A call of a kind. A propagation takes the flight on by its step.
     pub fn call(&mut self, kind: u32) -> Vec<f64> {
         match kind {
-            1 => self.propagate(),
-            2 => {
+            kinds::PROPAGATE => self.propagate(),
+            kinds::POSITION => {
                 let antenna = self.position() + self.attitude * self.lever + self.error(0.05);
                 [antenna.to_array().as_slice(), &self.noise(2.5e-3)].concat()
             }
-            3 => {
+            kinds::VELOCITY => {
                 let omega = self.rate();
                 let antenna = self.velocity() + self.attitude * omega.cross(self.lever) + self.error(0.05);
                 [antenna.to_array().as_slice(), &omega.to_array(), &self.noise(2.5e-3)].concat()
             }
-            4 => {
+            kinds::DIRECTION => {
                 let measured = self.mag.transpose() * (self.attitude.transpose() * NORTH) + self.error(0.01);
                 [measured.to_array().as_slice(), &NORTH.to_array(), &self.noise(1e-4)].concat()
             }
-            5 => {
+            kinds::GENERAL => {
                 let output: [f64; INNOVATION] = self.numbers.withins(0.1);
                 let innovation: [f64; 3] = self.numbers.withins(0.01);
                 [output.as_slice(), &innovation, &self.noise(0.1)].concat()
             }
-            7 => self.height(),
+            kinds::SCALAR => self.height(),
             _ => Vec::new(),
         }
     }

@@ -5,10 +5,21 @@ use crate::scalar::scalar;
 use crate::{beside, Numbers};
 use drifters_core::math::{Mat3, Matrix, Quat, Vec3};
 use original::places::{DELTA, E, GAMMA, GENERAL_NOISE, INNOVATION, POSITION, POSITION_ALPHA};
+use original::{is_update_of_three, kinds};
 
 /// The kinds that a log's calls are drawn from. A direction stands twice, since many have a vector at the limits of the norm; so does a scalar
 /// update, which has no call of the original's own.
-const DRAWN: [u32; 9] = [1, 2, 3, 4, 4, 5, 6, 7, 7];
+const DRAWN: [u32; 9] = [
+    kinds::PROPAGATE,
+    kinds::POSITION,
+    kinds::VELOCITY,
+    kinds::DIRECTION,
+    kinds::DIRECTION,
+    kinds::GENERAL,
+    kinds::STATE,
+    kinds::SCALAR,
+    kinds::SCALAR,
+];
 
 /// How a log's numbers are.
 #[derive(Clone, Copy, PartialEq)]
@@ -104,19 +115,19 @@ fn filter(n: &mut Numbers, manner: Manner) -> Vec<f64> {
 pub fn call(n: &mut Numbers, manner: Manner, kind: u32, run: &[f64]) -> Vec<f64> {
     let mut parts = Parts::new(manner);
     match kind {
-        1 => propagation(n, manner, &mut parts),
-        2 => parts.vector(n, 3, 3.0),
-        3 => {
+        kinds::PROPAGATE => propagation(n, manner, &mut parts),
+        kinds::POSITION => parts.vector(n, 3, 3.0),
+        kinds::VELOCITY => {
             parts.vector(n, 3, 3.0);
             parts.vector(n, 3, 1.0);
         }
-        4 => {
+        kinds::DIRECTION => {
             direction(n, &mut parts);
             direction(n, &mut parts);
         }
-        5 if manner == Manner::Scaled && n.one_in(4) => return infinite_nis(n),
-        5 if manner == Manner::Turning => turning_update(n, &mut parts),
-        5 if manner == Manner::Singular && n.one_in(2) => {
+        kinds::GENERAL if manner == Manner::Scaled && n.one_in(4) => return infinite_nis(n),
+        kinds::GENERAL if manner == Manner::Turning => turning_update(n, &mut parts),
+        kinds::GENERAL if manner == Manner::Singular && n.one_in(2) => {
             let (innovation, noise) = match n.below(8) {
                 0 => MINUS_ONE,
                 1 | 2 => zero_innovation(n),
@@ -128,16 +139,16 @@ pub fn call(n: &mut Numbers, manner: Manner, kind: u32, run: &[f64]) -> Vec<f64>
             parts.numbers.extend(noise.data.as_flattened());
             return parts.numbers;
         }
-        5 => {
+        kinds::GENERAL => {
             parts.vector(n, INNOVATION, 1.0);
             let size = n.one_of(&[1.0, 1.0, 30.0]);
             parts.vector(n, 3, size);
         }
-        7 => scalar(n, manner, run, &mut parts),
+        kinds::SCALAR => scalar(n, manner, run, &mut parts),
         _ => {}
     }
-    if (2..=5).contains(&kind) {
-        let noise = if kind == 5 && manner == Manner::Turning { [0.0; 9] } else { noise(n, manner) };
+    if is_update_of_three(kind) {
+        let noise = if kind == kinds::GENERAL && manner == Manner::Turning { [0.0; 9] } else { noise(n, manner) };
         parts.matrix(n, &noise);
     }
     let mut numbers = parts.numbers;

@@ -1,6 +1,8 @@
 //! Which numbers of a filter's run are alphas, and which of them the original is given for a call.
+use crate::kinds;
 use crate::places::{DIRECTION_ALPHA, FILTER, ONE_ALPHA, POSITION_ALPHA, VELOCITY_ALPHA};
 
+/// How many alphas a run has.
 #[derive(Clone, Copy)]
 pub enum Alphas {
     /// One for every call, as the original has it.
@@ -18,11 +20,11 @@ impl Alphas {
         }
     }
 
-    /// The place of the alpha that a call of a kind uses. A propagation and a state use none: theirs is that of the others.
+    /// The place of the alpha that a call of a kind uses. A propagation and a state use none: they are given that for position.
     pub fn place(self, kind: u32) -> usize {
         match (self, kind) {
-            (Self::Three, 3) => VELOCITY_ALPHA,
-            (Self::Three, 4) => DIRECTION_ALPHA,
+            (Self::Three, kinds::VELOCITY) => VELOCITY_ALPHA,
+            (Self::Three, kinds::DIRECTION) => DIRECTION_ALPHA,
             _ => POSITION_ALPHA,
         }
     }

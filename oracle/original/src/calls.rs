@@ -1,4 +1,5 @@
 //! One call on the original's filter: as the original makes it, and with the manual's checks (docs/MANUAL.md) in their order.
+use crate::kinds;
 use crate::measurement::{Measured, Measurement};
 use crate::places::{GENERAL, PROPAGATION, SCALAR, START, STATE};
 use crate::runs::{all_finite, filter_with, numbers_of, state_numbers, Reader};
@@ -15,30 +16,32 @@ use drifters_eqf::linear::{
 /// The largest turn of an exponential.
 const MOST_TURN: f64 = 8.0;
 
-/// The kinds of call are 1 to this one.
-pub const LAST_KIND: u32 = 7;
+/// Whether a kind is that of an update by three measured numbers.
+pub fn is_update_of_three(kind: u32) -> bool {
+    matches!(kind, kinds::POSITION | kinds::VELOCITY | kinds::DIRECTION | kinds::GENERAL)
+}
 
 /// Whether a kind is an update's, which answers a NIS.
 pub fn is_update(kind: u32) -> bool {
-    matches!(kind, 2..=5 | 7)
+    is_update_of_three(kind) || kind == kinds::SCALAR
 }
 
 /// How many numbers a call of a kind has.
 pub fn call_length(kind: u32) -> usize {
     match kind {
-        1 => PROPAGATION,
-        2 => 12,
-        3 | 4 => 15,
-        5 => GENERAL,
-        6 => 0,
-        7 => SCALAR,
+        kinds::PROPAGATE => PROPAGATION,
+        kinds::POSITION => 12,
+        kinds::VELOCITY | kinds::DIRECTION => 15,
+        kinds::GENERAL => GENERAL,
+        kinds::STATE => 0,
+        kinds::SCALAR => SCALAR,
         _ => panic!("no such kind: {kind}"),
     }
 }
 
 /// How many numbers a call of a kind writes beside the filter.
 pub fn written_length(kind: u32) -> usize {
-    if kind == 6 {
+    if kind == kinds::STATE {
         STATE
     } else {
         0
@@ -61,7 +64,7 @@ impl Call {
     pub fn read(kind: u32, numbers: &[f64]) -> Self {
         let mut v = Reader::new(numbers);
         match kind {
-            1 => Self::Propagate {
+            kinds::PROPAGATE => Self::Propagate {
                 u: Input { omega: v.vec3(), accel: v.vec3() },
                 dt: v.number(),
                 q: ProcessNoise {
@@ -73,12 +76,12 @@ impl Call {
                     mag: v.vec3(),
                 },
             },
-            2 => Self::Position { antenna: v.vec3(), noise: v.matrix() },
-            3 => Self::Velocity { antenna: v.vec3(), omega: v.vec3(), noise: v.matrix() },
-            4 => Self::Direction { measured: v.vec3(), north: v.vec3(), noise: v.matrix() },
-            5 => Self::General { c: v.matrix(), innovation: v.vec3(), noise: v.matrix() },
-            6 => Self::State,
-            7 => Self::Scalar(Measurement { c: v.matrix(), y: v.matrix(), noise: v.matrix() }),
+            kinds::POSITION => Self::Position { antenna: v.vec3(), noise: v.matrix() },
+            kinds::VELOCITY => Self::Velocity { antenna: v.vec3(), omega: v.vec3(), noise: v.matrix() },
+            kinds::DIRECTION => Self::Direction { measured: v.vec3(), north: v.vec3(), noise: v.matrix() },
+            kinds::GENERAL => Self::General { c: v.matrix(), innovation: v.vec3(), noise: v.matrix() },
+            kinds::STATE => Self::State,
+            kinds::SCALAR => Self::Scalar(Measurement { c: v.matrix(), y: v.matrix(), noise: v.matrix() }),
             _ => panic!("no such kind: {kind}"),
         }
     }

@@ -1,11 +1,9 @@
 //! One update by the best of several compasses, read from docs/MANUAL.md over the original's `update_direction`, since the original has no
 //! such call. Every reading that the budget allows is tried first, and the accepted ones are put in order afterwards.
+use crate::kinds::DIRECTION;
 use crate::places::{MOST_READINGS, NORTH_NOISE, READING};
 use crate::runs::all_finite;
 use crate::{call_with, Alphas, Answer};
-
-/// The kind of a direction call.
-const DIRECTION: u32 = 4;
 
 /// A direction call by one reading: its answer, and the filter's run as it left it.
 pub struct Try {

@@ -5,10 +5,11 @@
 //! original hands to `Symmetry::exp`, computed again by its own public functions, and results that are not finite (5). A refused call is made on
 //! a copy, which is dropped.
 //!
-//! The original's filter has one alpha, a run three: it is given the one that the call uses.
+//! The original's filter has one alpha, a run three: it is given the one that the call uses; or a run has one, as the original (`Alphas`).
 mod alphas;
 mod calls;
 mod compasses;
+pub mod kinds;
 mod measurement;
 pub mod places;
 mod runs;
@@ -16,9 +17,10 @@ mod sheet;
 mod unedited;
 
 pub use alphas::Alphas;
-pub use calls::{call_length, is_update, written_length, Call, LAST_KIND};
+pub use calls::{call_length, is_update, is_update_of_three, written_length, Call};
 pub use compasses::{update_compasses, update_compasses_with, Tries, Try};
-pub use runs::{filter_of, filter_with, numbers_of};
+pub use kinds::LAST_KIND;
+pub use runs::{all_finite, filter_of, filter_with, numbers_of};
 pub use sheet::{plain_sheet, run_sheet, REFUSED_SHEET};
 pub use unedited::propagated_unedited;
 
@@ -53,12 +55,12 @@ pub fn start(run: &mut [f64], numbers: &[f64]) -> Answer {
     if run.len() != FILTER || numbers.len() != START {
         return Answer::Refused(1);
     }
-    if !runs::all_finite(numbers) {
+    if !all_finite(numbers) {
         return Answer::Refused(2);
     }
     let started = runs::started(numbers);
     let left = numbers_of(&started);
-    if !runs::all_finite(&left) {
+    if !all_finite(&left) {
         return Answer::Refused(5);
     }
     run[..START].copy_from_slice(&left);

@@ -22,6 +22,9 @@ pub const FILTER: usize = DIRECTION_ALPHA + 1;
 pub const START: usize = POSITION_ALPHA;
 pub const STATE: usize = SIGMA;
 
+/// How many alphas a filter has.
+pub const ALPHAS: usize = FILTER - START;
+
 /// How many numbers a filter with one alpha has: that alpha stands where a filter has the one for position.
 pub const ONE_ALPHA: usize = POSITION_ALPHA + 1;
 

@@ -1,5 +1,6 @@
 //! Call sheets: an independent reader of the layout in docs/MANUAL.md, and the printer of its answers.
-use crate::calls::{call_length, written_length, Call, LAST_KIND};
+use crate::calls::{call_length, written_length, Call};
+use crate::kinds::LAST_KIND;
 use crate::places::FILTER;
 use crate::runs::filter_with;
 use crate::{call, Alphas, Answer};

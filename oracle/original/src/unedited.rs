@@ -1,13 +1,11 @@
 //! A propagation by filter.rs unedited: its `process_noise` takes the input's columns from two lifts, subtracted. No call of the port is held to it; it
 //! tells where the edit counts.
+use crate::kinds::PROPAGATE;
 use crate::places::START;
 use crate::runs::{filter_of, numbers_of, Reader};
 use drifters_eqf::filter::EqFilter;
 use drifters_eqf::lift::Input;
 use drifters_eqf::unedited::filter::{EqFilter as Unedited, ProcessNoise};
-
-/// The kind of a propagation.
-const PROPAGATE: u32 = 1;
 
 /// The numbers of a filter before its alphas after a propagation, which no check stops.
 pub fn propagated_unedited(run: &[f64], numbers: &[f64]) -> [f64; START] {

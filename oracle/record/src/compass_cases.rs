@@ -1,7 +1,7 @@
 //! What must come up among the updates by several compasses.
 use inputs::Compasses;
 use original::places::{DIRECTION_ALPHA, MOST_READINGS, READING};
-use original::{update_compasses, Answer, Tries};
+use original::{all_finite, update_compasses, Answer, Tries};
 
 /// A call that is not refused as a whole: its filter, its numbers, and what was tried.
 pub struct Made<'a> {
@@ -80,7 +80,7 @@ pub const CASES: [Case; 20] = [
     ("of two below 0", |made| made.nis_is(|least| made.tries.accepted().any(|(_, nis)| least < nis && nis < 0.0))),
     ("alpha outside 0..1", |made| made.accepted() > 1 && !(0.0..=1.0).contains(&made.run[DIRECTION_ALPHA])),
     ("a smaller NIS past the budget", |made| made.index().is_some() && made.has_better_past()),
-    ("not finite past the budget", |made| made.index().is_some() && made.left_out().iter().any(|x| !x.is_finite())),
+    ("not finite past the budget", |made| made.index().is_some() && !all_finite(made.left_out())),
     ("a budget above the count", |made| made.index().is_some() && made.call.budget > made.tried()),
     ("none, budget 0", |made| made.tried() == 0),
     ("none, an accepted one past the budget", |made| made.tried() > 0 && made.index().is_none() && made.has_better_past()),

@@ -1,7 +1,7 @@
 //! Updates by several compasses with the original's answers: the filters, then the calls, of which each is made on one of them.
 use crate::compass_cases::{Case, Made, CASES};
 use crate::list::{digest, stored};
-use crate::lists::{started, tells_alphas};
+use crate::lists::{other_alphas_differ, started};
 use inputs::{compasses, flown, one_alpha_log, spoil, Compasses, Flight, Manner, Numbers};
 use original::places::{FILTER, MOST_READINGS, NORTH_NOISE, ONE_ALPHA, POSITION_ALPHA, READING};
 use original::{update_compasses, Answer};
@@ -132,14 +132,14 @@ fn telling(filters: &[Vec<f64>]) -> Vec<Call> {
 
 /// Each count of readings on the filter with three alphas. Each update tells which it uses.
 fn of_three_alphas(flight: &mut Flight, filters: &[Vec<f64>]) -> Vec<Call> {
-    let mut told = |count| {
+    let mut checked = |count| {
         let call = Call::new(THREE_ALPHAS, flown(flight, count, count));
         let Compasses { readings, north_noise, budget } = &call.numbers;
         let update = |run: &mut [f64]| update_compasses(run, readings, north_noise, *budget);
-        assert!(tells_alphas(call.run(filters), &call.answer(filters).2, update), "compasses, three alphas");
+        assert!(other_alphas_differ(call.run(filters), &call.answer(filters).2, update), "compasses, three alphas");
         call
     };
-    (1..=MOST_READINGS).map(&mut told).collect()
+    (1..=MOST_READINGS).map(&mut checked).collect()
 }
 
 fn changed(call: &Call, change: impl FnOnce(&mut Call)) -> Call {

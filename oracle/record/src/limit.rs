@@ -1,5 +1,6 @@
 //! Turns of exactly 8, and of the next number above it.
 use crate::list::List;
+use original::kinds;
 use original::places::{
     DIAGONAL_STEP, DT, E, FILTER, GAMMA, GENERAL, GENERAL_NOISE, GRAVITY, INNOVATION, PROPAGATION, SCALAR, SCALAR_INNOVATION, SIGMA,
     VARIANCE, VELOCITY,
@@ -25,7 +26,7 @@ fn propagate(omega: [f64; 3], dt: f64) -> Call {
     let mut numbers = vec![0.0; PROPAGATION];
     numbers[..3].copy_from_slice(&omega);
     numbers[DT] = dt;
-    (1, numbers)
+    (kinds::PROPAGATE, numbers)
 }
 
 /// A measurement of the three states from `at` on. On a covariance of 1 with noise 2, alpha 0 and an innovation above 2 the gain is a quarter.
@@ -36,14 +37,14 @@ fn measure(at: usize, innovation: f64) -> Call {
         numbers[GENERAL_NOISE + 4 * i] = 2.0;
     }
     numbers[INNOVATION] = innovation;
-    (5, numbers)
+    (kinds::GENERAL, numbers)
 }
 
 /// The same of one state.
 fn measure_one(at: usize, innovation: f64) -> Call {
     let mut numbers = vec![0.0; SCALAR];
     (numbers[at], numbers[SCALAR_INNOVATION], numbers[VARIANCE]) = (1.0, innovation, 2.0);
-    (7, numbers)
+    (kinds::SCALAR, numbers)
 }
 
 /// Calls in pairs: the turn just above 8, which is refused, then the turn of 8.

@@ -1,4 +1,5 @@
 //! A list of calls with the original's answers, and the count of these.
+use original::kinds;
 use original::places::STATE;
 use original::{filter_of, Answer, Call, LAST_KIND};
 
@@ -127,9 +128,9 @@ impl Tally {
     pub fn expect_each_refusal(&self) {
         for (kind, row) in (1..).zip(&self.0) {
             let can = match kind {
-                1 => [true, true, true, false, true, false, false],
-                4 => [true; 7],
-                6 => [true, true, false, false, true, false, false],
+                kinds::PROPAGATE => [true, true, true, false, true, false, false],
+                kinds::DIRECTION => [true; 7],
+                kinds::STATE => [true, true, false, false, true, false, false],
                 _ => [true, true, true, true, true, true, false],
             };
             for (i, answer) in ANSWERS.iter().enumerate() {

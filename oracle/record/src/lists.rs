@@ -1,9 +1,10 @@
 //! The lists of calls, each from a fixed seed.
 use crate::list::List;
 use inputs::{biased, rounded_away, Flight, Log, Manner, Numbers};
+use original::kinds;
 use original::places::{
-    DIAGONAL_STEP, DT, E, FILTER, GAMMA, GENERAL, GENERAL_NOISE, GRAVITY, INNOVATION, POSITION_ALPHA, SCALAR, SCALAR_INNOVATION, SIGMA,
-    START, VARIANCE, VELOCITY_ALPHA,
+    ALPHAS, DIAGONAL_STEP, DT, E, FILTER, GAMMA, GENERAL, GENERAL_NOISE, GRAVITY, INNOVATION, POSITION_ALPHA, SCALAR, SCALAR_INNOVATION,
+    SIGMA, START, VARIANCE, VELOCITY_ALPHA,
 };
 use original::{is_update, propagated_unedited, Answer, LAST_KIND};
 
@@ -21,17 +22,17 @@ pub fn started(flight: &mut Flight, alpha: f64) -> Vec<f64> {
 }
 
 /// Whether an update leaves another filter by each of the other two alphas. `left` is what it leaves of `run`.
-pub fn tells_alphas<T>(run: &[f64], left: &[f64], update: impl Fn(&mut [f64]) -> T) -> bool {
-    [1, 2].iter().all(|places| {
+pub fn other_alphas_differ<T>(run: &[f64], left: &[f64], update: impl Fn(&mut [f64]) -> T) -> bool {
+    (1..ALPHAS).all(|places| {
         let mut other = run.to_vec();
-        other[POSITION_ALPHA..].rotate_left(*places);
+        other[POSITION_ALPHA..].rotate_left(places);
         update(&mut other);
         other[..START] != left[..START]
     })
 }
 
 /// A flight of n calls with an alpha for each sensor. Each update tells which it uses.
-fn with_alphas(name: &'static str, seed: u64, alphas: [f64; 3], n: usize) -> List {
+fn with_alphas(name: &'static str, seed: u64, alphas: [f64; ALPHAS], n: usize) -> List {
     let mut flight = Flight::new(seed);
     let mut run = started(&mut flight, 0.5);
     run[POSITION_ALPHA..].copy_from_slice(&alphas);
@@ -40,7 +41,7 @@ fn with_alphas(name: &'static str, seed: u64, alphas: [f64; 3], n: usize) -> Lis
         let (run, (kind, numbers)) = (list.run.clone(), flight.next_call());
         list.add((kind, numbers.clone()));
         let update = |run: &mut [f64]| original::call(kind, run, &numbers, &mut []);
-        assert!(!is_update(kind) || tells_alphas(&run, &list.run, update), "{name}");
+        assert!(!is_update(kind) || other_alphas_differ(&run, &list.run, update), "{name}");
     }
     list
 }
@@ -59,7 +60,7 @@ fn flown(name: &'static str, seed: u64, alpha: f64, n: usize, mut edit: impl FnM
 
 /// The noise of an update, its last nine numbers; of a scalar update the variance.
 fn noise(call: &mut Call) -> &mut [f64] {
-    let at = call.1.len() - if call.0 == 7 { 1 } else { 9 };
+    let at = call.1.len() - if call.0 == kinds::SCALAR { 1 } else { 9 };
     &mut call.1[at..]
 }
 
@@ -73,7 +74,7 @@ fn replace(n: &mut Numbers, call: &mut Call, one_in: usize, number: fn(&mut Numb
 }
 
 fn backwards(n: &mut Numbers, call: &mut Call) {
-    if call.0 == 1 {
+    if call.0 == kinds::PROPAGATE {
         call.1[DT] = n.one_of(&[-0.01, -0.03, 0.0, -0.0, 0.01]);
     }
 }
@@ -130,21 +131,21 @@ fn spoil_noise(n: &mut Numbers, call: &mut Call) {
 /// Turns of 5 to 11: in some propagations, and by measurements of the attitude and of E, whose gain is about a half.
 fn turn(n: &mut Numbers, call: &mut Call) {
     let turn = 8.0 + n.within(3.0);
-    if call.0 == 1 && n.one_in(4) {
+    if call.0 == kinds::PROPAGATE && n.one_in(4) {
         let norm = call.1[..3].iter().map(|x| x * x).sum::<f64>().sqrt();
         call.1[..3].iter_mut().for_each(|x| *x *= turn / norm);
         call.1[DT] = n.one_of(&[1.0, -1.0, 0.5]);
     }
-    if call.0 == 4 && n.one_in(2) {
+    if call.0 == kinds::DIRECTION && n.one_in(2) {
         let (at, axis) = (n.one_of(&[0, 18]), n.below(3));
-        *call = (5, vec![0.0; GENERAL]);
+        *call = (kinds::GENERAL, vec![0.0; GENERAL]);
         for i in 0..3 {
             call.1[DIAGONAL_STEP * i + at] = 1.0;
             call.1[GENERAL_NOISE + 4 * i] = 1e-9;
         }
         call.1[INNOVATION + axis] = 2.0 * turn;
     }
-    if call.0 == 7 && n.one_in(2) {
+    if call.0 == kinds::SCALAR && n.one_in(2) {
         let at = n.one_of(&[0, 18]) + n.below(3);
         call.1 = vec![0.0; SCALAR];
         (call.1[at], call.1[SCALAR_INNOVATION], call.1[VARIANCE]) = (1.0, 2.0 * turn, 1e-9);
@@ -153,7 +154,7 @@ fn turn(n: &mut Numbers, call: &mut Call) {
 
 /// Directions alone; north and what is measured ordinary, of a norm that is 0, by underflow too, or hardly above it, or that overflows.
 fn point(n: &mut Numbers, call: &mut Call) {
-    if call.0 == 4 {
+    if call.0 == kinds::DIRECTION {
         for at in [0, 3] {
             let scale = n.one_of(&[1.0, 1.0, 1.0, 1.0, 0.0, -0.0, 1e-200, 1e-161, 1e200]);
             call.1[at..at + 3].iter_mut().for_each(|x| *x *= scale);
@@ -190,7 +191,7 @@ fn general(name: &'static str, seed: u64, alpha: f64) -> List {
     let mut flight = Flight::new(seed);
     let mut list = List::new(name, &started(&mut flight, alpha));
     for _ in 0..60 {
-        let call = (5, flight.call(5));
+        let call = (kinds::GENERAL, flight.call(kinds::GENERAL));
         list.add_tame(call);
     }
     list
@@ -201,7 +202,7 @@ fn scalar(name: &'static str, seed: u64, alpha: f64) -> List {
     let mut n = Numbers::new(seed);
     let mut list = List::new(name, &started(&mut Flight::new(seed), alpha));
     for manner in Manner::ALL.into_iter().cycle().take(120) {
-        let call = (7, inputs::call(&mut n, manner, 7, &list.run));
+        let call = (kinds::SCALAR, inputs::call(&mut n, manner, kinds::SCALAR, &list.run));
         list.add_tame(call);
     }
     list
@@ -254,9 +255,9 @@ fn huge(name: &'static str, alpha: f64, by: &Scales) -> List {
     for kind in (1..=LAST_KIND).cycle().take(3 * LAST_KIND as usize) {
         let mut call = (kind, flight.call(kind));
         let innovation = match kind {
-            2 | 3 => 0..3,
-            5 => INNOVATION..GENERAL_NOISE,
-            7 => SCALAR_INNOVATION..VARIANCE,
+            kinds::POSITION | kinds::VELOCITY => 0..3,
+            kinds::GENERAL => INNOVATION..GENERAL_NOISE,
+            kinds::SCALAR => SCALAR_INNOVATION..VARIANCE,
             _ => 0..0,
         };
         call.1[innovation].iter_mut().for_each(|x| *x *= by.innovation);

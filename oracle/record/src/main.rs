@@ -29,7 +29,7 @@ fn damaged(answers: &[u8]) -> Vec<u8> {
 
 /// Sheets of 0 and of 257 entries, else in the layout.
 fn write_counts(folder: &Path) {
-    let states = vec![(6, Vec::new()); 256];
+    let states = vec![(original::kinds::STATE, Vec::new()); 256];
     for (name, bytes) in [("count0", vec![0; 4]), ("count257", inputs::sheet(&[0.0; original::places::FILTER], &states))] {
         assert_eq!(original::run_sheet(&bytes), original::REFUSED_SHEET);
         write(folder, &format!("{name}.sheet"), &bytes);

@@ -2,7 +2,7 @@
 use crate::limit::{filter, IDENTITY};
 use crate::list::List;
 use inputs::norms::UNDERFLOWING;
-use original::Answer;
+use original::{kinds, Answer};
 
 type Vector = [f64; 3];
 
@@ -56,7 +56,7 @@ fn is_zero(answer: Answer) -> bool {
 fn add(list: &mut List, measured: Vector, north: Vector, variance: f64, is_expected: fn(Answer) -> bool) {
     let mut noise = [0.0; 9];
     noise.iter_mut().step_by(4).for_each(|x| *x = variance);
-    let answer = list.add((4, [measured.as_slice(), &north, &noise].concat()));
+    let answer = list.add((kinds::DIRECTION, [measured.as_slice(), &north, &noise].concat()));
     assert!(is_expected(answer), "measured {measured:?}, north {north:?}, variance {variance}: {answer:?}");
 }
 

@@ -28,7 +28,7 @@ use Rattle.drifters_symmetry.specs.declared.group.State.{State as StateRecord}
 use Rattle.drifters_eqf.specs.declared.filter.EqFilter.{EqFilter}
 use Rattle.drifters_kind.specs.declared.kind.Kind.{Kind}
 use Rattle.drifters_kind.specs.declared.kind.Kind.TheVariants.{Propagate, Position, Velocity, Direction, General, State, Scalar}
-use Rattle.drifters_entry.proofs.RoundTrips.{round_trips, alphas_after, length_to_run, length_state_to_run, sized_from_run}
+use Rattle.drifters_entry.proofs.RoundTrips.{round_trips, length_to_run, length_state_to_run, sized_from_run}
 use Rattle.drifters_demands.proofs.Sizes.{sized_propagate, sized_update, sized_nav_state}
 use Rattle.drifters_demands.proofs.Signs.GroupRecords.{LikeState, LikeInput}
 use Rattle.drifters_demands.proofs.Signs.FilterRecords.{LikeProcessNoise, LikeFilter, LikeAnswer, both_nis_lem, both_fine, both_refused_lem, LikeAnswered, LikeMeasurement, LikeMeasured, both_measured, both_unmeasured, LikeRequest, like_refusal, like_propagation, like_measurement, like_estimate}
@@ -72,7 +72,7 @@ module _ {s : Signs} {run run' : List Float} (R : TurnedFilter s run run') where
         alike = rw l
             (like_of_from_run s (to_run f a) (to_run g b)
             (subst₂ (LikeFilter s no_turn no_turn) (sym (round_trips.filter_record f a F)) (sym (round_trips.filter_record g b G)) h)
-            (rw (alphas_after f a F, alphas_after g b G) (like_alphas_of s alike)));
+            (rw (round_trips.alphas_kept f a F, round_trips.alphas_kept g b G) (like_alphas_of s alike)));
       }
 
 state_to_run_turned : {s : Signs} {xi zeta : StateRecord} → LikeState s no_turn no_turn xi zeta → SizedState xi → SizedState zeta

@@ -3,15 +3,16 @@ use Prim.Native.Nat.{ℕ, ◌+◌, ◌-◌, ◌*◌, ◌/◌, ◌≤◌, ◌<◌
 use native.Mathlib.Omega.{arith}
 use mathlib.Core.Path.{◌≡◌, refl, sym, ap, ap₂, ◌∙◌, subst, subst₂}
 use mathlib.Core.Bool.{Bool, true, false, cond}
-use mathlib.Core.List.{List}
+use mathlib.Core.List.{List, ◌++◌}
 use borrow.Author.Tests.{ltb-true, ltb-false, lt-ltb, le-ltb}
 use lib.Dec.{ltb, lit<}
-use lib.ListN.{length, get_or, take, drop}
+use lib.ListN.{length, get_or, take, drop, length-append, get_or-append}
 use lib.Seq.{get_or-take, get_or-drop, drop-drop}
 use lib.Ieee.{Float, nan, unlike}
+use Rattle.std.proofs.lemmas.List.{get_or-append_right}
 use Rattle.std.proofs.lemmas.Nat.{div-mul-add, mod-mul-add}
 use Rattle.drifters_demands.specs.Like.{signed, Like, Signs, axis, LikeList, LikeVec3, LikeMatrix, no_turn}
-use Rattle.drifters_matrix.proofs.Matrix.Tab.{length_tab, get_d_tab}
+use Rattle.drifters_matrix.proofs.Matrix.Tab.{length_tab, get_d_tab, tab_is}
 use Rattle.drifters_matrix.proofs.Matrix.Grid.{at_in}
 use Rattle.drifters_demands.proofs.Signs.Sign.{axis_add}
 use Rattle.drifters_demands.proofs.Signs.Like.{like_as}
@@ -36,6 +37,28 @@ length_turned σ a = length_tab (length a) (λ i. signed (σ i) (get_or a i nan)
 pub get_d_turned : (σ : ℕ → Bool) (a : List Float) (i : ℕ) → i < length a → get_or (turned σ a) i nan ≡ signed (σ i) (get_or a i nan)
 unfolding turned
 get_d_turned σ a i I = get_d_tab (length a) (λ i. signed (σ i) (get_or a i nan)) i nan I
+
+-- the turn of one run after another
+pub turned_of_append : (σ : ℕ → Bool) (xs ys : List Float) → turned σ (xs ++ ys) ≡ turned σ xs ++ turned (λ i. σ (length xs + i)) ys
+unfolding turned
+turned_of_append σ xs ys =
+    let size = length-append (turned σ xs) (turned τ ys) ∙ ap₂ ◌+◌ (length_turned σ xs) (length_turned τ ys) ∙ sym (length-append xs ys) in
+    sym (tab_is _ (length (xs ++ ys)) _ size (λ k p. at k p (ltb k (length xs)) refl))
+  where
+    τ : ℕ → Bool
+    τ i = σ (length xs + i)
+
+    at : (k : ℕ) → k < length (xs ++ ys) → (b : Bool) → ltb k (length xs) ≡ b → get_or (turned σ xs ++ turned τ ys) k nan ≡ signed (σ k) (get_or (xs ++ ys) k nan)
+    at k p true e =
+        let K = ltb-true k (length xs) e in
+        get_or-append (turned σ xs) (turned τ ys) nan k (rw (length_turned σ xs) K) ∙ get_d_turned σ xs k K ∙ ap (signed (σ k)) (sym (get_or-append xs ys nan k K))
+    at k p false e =
+        let K = ltb-false k (length xs) e in
+        let j = k - length xs in
+        let is : length xs + j ≡ k = omega (arith, K) in
+        get_or-append_right (turned σ xs) (turned τ ys) (length xs) k nan (length_turned σ xs) K
+        ∙ get_d_turned τ ys j (omega (arith, K, p, length-append xs ys))
+        ∙ ap₂ (λ (i : ℕ) (x : Float). signed (σ i) x) is (sym (get_or-append_right xs ys (length xs) k nan refl K))
 
 -- ---- the first n numbers, and those after them
 module _ (n : ℕ) (σ τ : ℕ → Bool) (i : ℕ) where
@@ -172,7 +195,11 @@ module _ (s : Signs) where
 
   -- the alphas do not turn
   pub like_alphas_of : {a b : List Float} → LikeList (filter_signs s) filter_length a b → LikeList plain (after alpha_place) (alphas_of a) (alphas_of b)
-  like_alphas_of {a} {b} h = record { entry = below_three (λ i. Like false (get_or (alphas_of a) i nan) (get_or (alphas_of b) i nan)) (alpha 0 (h.entry alpha_place (lit< tt))) (alpha 1 (h.entry (alpha_place + 1) (lit< tt))) (alpha 2 (h.entry (alpha_place + 2) (lit< tt))) }
+  like_alphas_of {a} {b} h =
+      let first = alpha 0 (h.entry alpha_place (lit< tt)) in
+      let second = alpha 1 (h.entry (alpha_place + 1) (lit< tt)) in
+      let third = alpha 2 (h.entry (alpha_place + 2) (lit< tt)) in
+      record { entry = below_three (λ i. Like false (get_or (alphas_of a) i nan) (get_or (alphas_of b) i nan)) first second third }
     where
       alpha : (i : ℕ) → Like false (get_or a (alpha_place + i) nan) (get_or b (alpha_place + i) nan) → Like false (get_or (alphas_of a) i nan) (get_or (alphas_of b) i nan)
       alpha i h = rw (get_or-drop alpha_place a i nan, get_or-drop alpha_place b i nan) h
