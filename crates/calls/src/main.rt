@@ -213,8 +213,8 @@ fn several_compasses(rt: &impl Print) -> io::Result<()> {
     call(rt, Kind::Direction, &mut copy, &pair())
 }
 
-// A filter that has just started, downgraded and upgraded, and then refused by 8, since one of its alphas is another. The last line is a direction on the
-// filter that was changed back and over: it has the answer of the line before the start.
+// A filter that has just started, downgraded and upgraded, and then refused by 8, since one of its alphas is another. The last line is a direction on
+// the filter that was changed back and over: it has the answer of the line before the start.
 fn conversions(rt: &impl Print) -> io::Result<()> {
     let mut run = [0.0; FILTER_LENGTH];
     report(rt, "start", start(&mut run, &start_numbers()))?;

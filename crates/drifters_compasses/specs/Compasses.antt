@@ -27,8 +27,8 @@ most_readings = 8
 abbrev pub count_of : ℕ → ℕ
 count_of n = n / reading_length
 
--- the filter's run in a layout, the readings, from one to the most of them, and north with noise have their stated lengths, and the budget is at most the
--- most
+-- the filter's run in a layout, the readings, from one to the most of them, and north with noise have their stated lengths, and the budget is at
+-- most the most
 abbrev pub compasses_fit_in : Layout → ℕ → ℕ → ℕ → ℕ → Bool
 compasses_fit_in l run readings north_noise budget =
     eqb run l.length && eqb (readings % reading_length) 0 && leb 1 (count_of readings) && leb (count_of readings) most_readings

@@ -23,7 +23,7 @@ use Rattle.drifters_entry.specs.Layout.{alpha_place, filter_length, one_alpha_le
 use Rattle.drifters_entry.specs.Entry.{Request, refusal, propagation, measurement, estimate, request_in, Outcome, outcome, outcome_of, performed, refused, if_finite, range_checked_as, range_checked, lengths_fit_in, call_in}
 use Rattle.drifters_entry.proofs.RoundTrips.{length_to_run}
 use Rattle.drifters_compasses.specs.Compasses.{reading_length, north_noise_length, most_readings, count_of, compasses_fit_in, tried, direction_numbers, attempt_in, BestTry, nothing, reading, better_by, best_of, CompassesOutcome, compasses_outcome, selected, update_compasses_in}
-use Rattle.drifters_upgrade.specs.Upgrade.{upgraded, downgraded, same_bits, alphas_equal, upgrade, downgrade}
+use Rattle.drifters_upgrade.specs.Upgrade.{upgraded, downgraded, equal_bits, alphas_equal, upgrade, downgrade}
 use Rattle.drifters_demands.specs.Like.{unsigned_zero, Signs}
 use Rattle.drifters_demands.specs.Turn.{filter_signs, turned}
 use Rattle.drifters_demands.specs.Log.{Call, kind_call, compasses_call, kind_answer, compasses_answer, answer_in, left_in, entries_in}
@@ -108,11 +108,11 @@ call_upgraded kind run v written =
     (λ e.
     let l = eqb-true (length run) one_alpha_length (and_parts _ _ (and_parts _ _ (sym fits ∙ e)).0).0 in
     let q = request_in one_alpha kind run v in
-    let made = performed_upgraded run l written q in
+    let both = performed_upgraded run l written q in
     cond_keeps (λ (p q : Outcome). p ≡ upgraded_outcome q) (ap (λ (b : Bool). b && all_finite v) (finite_upgraded run l))
     (λ finite.
-    rw (request_upgraded run l kind v, from_upgraded run l, made.upgraded)
-    (range_checked_upgraded (performed q (from_run run) run written) made.size run written))
+    rw (request_upgraded run l kind v, from_upgraded run l, both.upgraded)
+    (range_checked_upgraded (performed q (from_run run) run written) both.size run written))
     (λ blank. refl))
     (λ e. refl)
   where
@@ -179,15 +179,15 @@ compasses_upgraded run readings north_noise budget =
 -- ---- logs
 
 -- what a call comes to, changed over or not
-record Made (run : List Float) (c : Call) : Type 0 where
+record EntryUpgraded (run : List Float) (c : Call) : Type 0 where
   answer : answer_in three_alphas (upgraded run) c ≡ answer_in one_alpha run c
   left : left_in three_alphas (upgraded run) c ≡ upgraded (left_in one_alpha run c)
 
-made : (run : List Float) (c : Call) → Made run c
-made run (kind_call kind v) =
+entry_upgraded : (run : List Float) (c : Call) → EntryUpgraded run c
+entry_upgraded run (kind_call kind v) =
     let e = call_upgraded kind run v _ in
     record { answer = ap (λ (o : Outcome). kind_answer o.answer o.written) e; left = ap (λ (o : Outcome). o.run) e }
-made run (compasses_call readings north_noise budget) =
+entry_upgraded run (compasses_call readings north_noise budget) =
     let e = compasses_upgraded run readings north_noise budget in
     record { answer = ap (λ (o : CompassesOutcome). compasses_answer o.answer) e; left = ap (λ (o : CompassesOutcome). o.run) e }
 
@@ -195,9 +195,9 @@ entries_upgraded : (run : List Float) (calls : List Call) → entries_in three_a
 unfolding entries_in
 entries_upgraded run [] = refl
 entries_upgraded run (c ∷ cs) =
-    let m = made run c in
-    λ i. record { called = c; answer = m.answer i; left = m.left i }
-    ∷ (ap (λ (l : List Float). entries_in three_alphas l cs) m.left ∙ entries_upgraded (left_in one_alpha run c) cs) i
+    let e = entry_upgraded run c in
+    λ i. record { called = c; answer = e.answer i; left = e.left i }
+    ∷ (ap (λ (l : List Float). entries_in three_alphas l cs) e.left ∙ entries_upgraded (left_in one_alpha run c) cs) i
 
 -- ---- over and back
 
@@ -220,7 +220,7 @@ module _ (run written : List Float) where
     shared = get_or run alpha_place nan
 
     -- a number with the same bits as the first alpha
-    same_as_first : (i : ℕ) → i < length run → same_bits shared (get_or run i nan) ≡ true → get_or run i nan ≡ shared
+    same_as_first : (i : ℕ) → i < length run → equal_bits shared (get_or run i nan) ≡ true → get_or run i nan ≡ shared
     same_as_first i I e =
         sym (of_bits-to_bits binary64 (get_or run i nan) (floats i I))
         ∙ ap (of_bits binary64) (sym (eqb-true _ _ e))

@@ -71,8 +71,8 @@ alpha_asked (measurement w m noise alpha) = alpha ∷ []
 alpha_asked estimate = []
 
 -- whether the alphas of a filter have equal bits
-abbrev pub equal_alphas : Float → Float → Float → Bool
-equal_alphas a b c = alphas_equal (replicate alpha_place plus_zero ++ a ∷ b ∷ c ∷ [])
+abbrev pub alphas_equal_at : Float → Float → Float → Bool
+alphas_equal_at a b c = alphas_equal (replicate alpha_place plus_zero ++ a ∷ b ∷ c ∷ [])
 
 -- the table; u, v and w, above a diagonal, may hold anything
 unfoldable pub readings : Float → Float → Float → List Reading
@@ -125,7 +125,7 @@ readings u v w =
     ∷ numbers_are (drop gravity_place (turned (filter_signs about_x) (replicate 480 one))) (axes ++ one ∷ one ∷ one ∷ [])
     ∷ reads (three_alphas.position ∷ three_alphas.velocity ∷ three_alphas.direction ∷ three_alphas.length ∷ one_alpha.length ∷ []) (477 ∷ 478 ∷ 479 ∷ 480 ∷ 478 ∷ [])
     ∷ numbers_are (asked_of Position ++ asked_of Velocity ++ asked_of Direction ++ asked_of General ++ asked_of Scalar) (one ∷ two ∷ three ∷ one ∷ one ∷ [])
-    ∷ tests_are (equal_alphas zero zero zero ∷ equal_alphas one two one ∷ equal_alphas one one two ∷ equal_alphas zero (float 0x8000_0000_0000_0000) zero ∷ []) (1 ∷ 0 ∷ 0 ∷ 0 ∷ [])
+    ∷ tests_are (alphas_equal_at zero zero zero ∷ alphas_equal_at one two one ∷ alphas_equal_at one one two ∷ alphas_equal_at zero (float 0x8000_0000_0000_0000) zero ∷ []) (1 ∷ 0 ∷ 0 ∷ 0 ∷ [])
     -- a norm: 0 by underflow, at the largest number whose square is 0; above 0 at the next number; infinite at 1e200
     ∷ numbers_are (norm_of 0x1e56_a09e_667f_3bcc ∷ norm_of 0x1e56_a09e_667f_3bcd ∷ norm_of 0x6974_e718_d7d7_625a ∷ []) (zero ∷ float 0x1e6b_b67a_e858_4caa ∷ inf false ∷ [])
     ∷ []

@@ -1,2 +1,3 @@
-// Theorems only: the half turn, the three demands, the change-over and the starred readings. They are about the definitions of the crates below; no code stands on them.
+// Theorems only: the half turn, the three demands, the change-over and the starred readings. They are about the definitions of the crates below; no
+// code stands on them.
 #![tactic(auto)]

@@ -100,8 +100,8 @@ range_checked_as (Refused n) o run written = refused n run written
 unfoldable pub range_checked : Outcome → List Float → List Float → Outcome
 range_checked o run written = range_checked_as o.answer o run written
 
--- every lent run of a call of a form has its stated length in a layout, n that of the run to be written, which is empty where nothing is written beside the
--- filter
+-- every lent run of a call of a form has its stated length in a layout, n that of the run to be written, which is empty where nothing is written
+-- beside the filter
 abbrev pub lengths_fit_in : Layout → Form → List Float → List Float → ℕ → Bool
 lengths_fit_in l form run v n = eqb (length run) l.length && eqb (length v) form.numbers && eqb n form.written
 

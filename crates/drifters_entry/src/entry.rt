@@ -141,15 +141,13 @@ fn asked_by(kind: Kind, run: &[f64; FILTER_LENGTH], numbers: &[f64]) -> Result<A
         }
         Kind::Position => {
             let measurement = measured_position(symmetry_from_run(run), vec3_at(numbers, 0));
-            let noise = matrix_at(numbers, 3);
-            Ok(Asked::Update3(measurement, noise, run[POSITION_ALPHA]))
+            Ok(Asked::Update3(measurement, matrix_at(numbers, 3), run[POSITION_ALPHA]))
         }
         Kind::Velocity => {
             let antenna = vec3_at(numbers, 0);
             let omega = vec3_at(numbers, 3);
             let measurement = measured_velocity(symmetry_from_run(run), antenna, omega);
-            let noise = matrix_at(numbers, 6);
-            Ok(Asked::Update3(measurement, noise, run[VELOCITY_ALPHA]))
+            Ok(Asked::Update3(measurement, matrix_at(numbers, 6), run[VELOCITY_ALPHA]))
         }
         Kind::Direction => {
             let measured = vec3_at(numbers, 0);
@@ -157,16 +155,14 @@ fn asked_by(kind: Kind, run: &[f64; FILTER_LENGTH], numbers: &[f64]) -> Result<A
             let measurement = measured_direction(symmetry_from_run(run), measured, north).ok_or(
                 Refusal::Null,
             )?;
-            let noise = matrix_at(numbers, 6);
-            Ok(Asked::Update3(measurement, noise, run[DIRECTION_ALPHA]))
+            Ok(Asked::Update3(measurement, matrix_at(numbers, 6), run[DIRECTION_ALPHA]))
         }
         Kind::General => {
             let measurement = Measurement3 {
                 output: matrix_at(numbers, 0),
                 innovation: vec3_at(numbers, 63),
             };
-            let noise = matrix_at(numbers, 66);
-            Ok(Asked::Update3(measurement, noise, run[POSITION_ALPHA]))
+            Ok(Asked::Update3(measurement, matrix_at(numbers, 66), run[POSITION_ALPHA]))
         }
         Kind::State => Ok(Asked::Estimate),
         Kind::Scalar => Ok(Asked::Update1(
@@ -216,7 +212,8 @@ fn process_noise_at(numbers: &[f64], at: usize) -> ProcessNoise
     }
 }
 
-// The answer as it is given out: refused as range where a result is not finite, else the filter is written, with the alphas. `nis` is that of an update.
+// The answer as it is given out: refused as range where a result is not finite, else the filter is written, with the alphas. `nis` is that of an
+// update.
 fn write_filter(
     nis: Option<f64>,
     filter: &EqFilter,

@@ -1,5 +1,5 @@
--- Port of filter.rs: the filter's propagation and updates, with their refusals. An update is given its alpha, the share of inflation along the innovation;
--- the original keeps one in the filter and reads it there. Definitions only.
+-- Port of filter.rs: the filter's propagation and updates, with their refusals. An update is given its alpha, the share of inflation along the
+-- innovation; the original keeps one in the filter and reads it there. Definitions only.
 use Rattle.std.specs.Prelude.{ℕ, ◌*◌, Bool, ◌&&◌, cond, List, Float, Option, Some, None, Result, Ok, Err}
 use Rattle.std.specs.Float.{binary64}
 use Rattle.std.specs.Float.Ieee.{le, of_bits}

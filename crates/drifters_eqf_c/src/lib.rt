@@ -1,6 +1,6 @@
-// The filter's calls and conversions, call sheets, sine, cosine and square root, for C and Rust to call. Runs of any length come in. A function answers 0 or
-// the number of its refusal, and a refusal changes no lent run. include/drifters_eqf.h declares them. C has no Option and no Result, and the five updates
-// have five names there: so the codes, the lent result of one number and the names stay, in the exported functions only.
+// The filter's calls and conversions, call sheets, sine, cosine and square root, for C and Rust to call. Runs of any length come in. A function
+// answers 0 or the number of its refusal, and a refusal changes no lent run. include/drifters_eqf.h declares them. C has no Option and no Result, and
+// the five updates have five names there: so the codes, the lent result of one number and the names stay, in the exported functions only.
 #![tactic(auto)]
 
 ghost use Rattle.std.specs.Prelude.{◌≡◌, []};

@@ -1,4 +1,4 @@
--- A filter with one alpha, changed over to one with an alpha for each sensor, and back, on lent runs. Definitions and statements only.
+-- A filter with one alpha, changed over to one with an alpha for each sensor, and back, on lent runs. Definitions only.
 use Rattle.std.specs.Prelude.{Bool, ◌&&◌, cond, List, [], ◌∷◌, ◌++◌, eqb, length, get_or, take, Float}
 use Rattle.std.specs.Float.{nan, binary64}
 use Rattle.std.specs.Float.Ieee.{to_bits}
@@ -16,14 +16,14 @@ unfoldable pub downgraded : List Float → List Float
 downgraded run = take one_alpha_length run
 
 -- two numbers have the same bits: +0 and -0 have not
-abbrev pub same_bits : Float → Float → Bool
-same_bits x y = eqb (to_bits binary64 x) (to_bits binary64 y)
+abbrev pub equal_bits : Float → Float → Bool
+equal_bits x y = eqb (to_bits binary64 x) (to_bits binary64 y)
 
 -- the alphas of a filter have the same bits
 unfoldable pub alphas_equal : List Float → Bool
 alphas_equal run =
     let alpha = get_or run three_alphas.position nan in
-    same_bits alpha (get_or run three_alphas.velocity nan) && same_bits alpha (get_or run three_alphas.direction nan)
+    equal_bits alpha (get_or run three_alphas.velocity nan) && equal_bits alpha (get_or run three_alphas.direction nan)
 
 -- what changing over gives, into the run `written`
 unfoldable pub upgrade : List Float → List Float → Outcome

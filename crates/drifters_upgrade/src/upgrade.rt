@@ -1,5 +1,5 @@
-// A filter with one alpha, changed over to one with an alpha for each sensor, and back, on lent runs. Runs of any length come in; a call that is refused
-// changes none of them.
+// A filter with one alpha, changed over to one with an alpha for each sensor, and back, on lent runs. Runs of any length come in; a call that is
+// refused changes none of them.
 ghost use Rattle.std.specs.Prelude.{◌≡◌, true};
 ghost use Rattle.drifters_matrix.specs.Matrix.{all_finite};
 ghost use Rattle.drifters_eqf.specs.Answer.{answer_of};
