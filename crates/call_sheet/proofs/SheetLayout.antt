@@ -3,23 +3,27 @@
 use Prim.Native.Nat.{ℕ, zero, suc, ◌+◌, ◌-◌, ◌*◌, ◌≤◌}
 use mathlib.Core.Path.{◌≡◌, refl, sym, ap, ◌∙◌, subst}
 use mathlib.Core.Bool.{Bool, true, false, ◌&&◌, cond, false≢true}
-use mathlib.Core.List.{List, [], ◌∷◌, ◌++◌, append_assoc, append-nil}
+use mathlib.Core.List.{List, [], ◌∷◌, ◌++◌, map, append_assoc, append-nil}
+use native.Mathlib.Nat.{add-zero}
+use native.Mathlib.Numerals.{one-add}
 use native.Mathlib.Omega.{arith}
 use borrow.Author.Tests.{eq-eqb, le-leb, eqb-true, leb-true}
 use lib.Dec.{eqb, leb}
-use lib.ListN.{length, take, drop, length-append}
+use lib.ListN.{length, take, drop, length-append, length-map}
 use lib.Seq.{take_at, drop_at}
 use Rattle.std.specs.Prelude.{Option, Some, None, Err, option_map}
 use Rattle.std.specs.Bool.{then_some}
 use Rattle.std.proofs.lemmas.Option.{none-some, same_Some}
+use Rattle.std.proofs.lemmas.Simd.{map-map}
 use Rattle.drifters_matrix.specs.Matrix.{tab}
 use Rattle.drifters_matrix.proofs.Matrix.Tab.{length_tab, tab_add}
 use Rattle.drifters_eqf.specs.declared.answer.Refusal.TheVariants as refusal
-use Rattle.drifters_kind.specs.Kind.{call_length, kind_of}
+use Rattle.drifters_kind.specs.Kind.{kind_number, call_length, kind_of}
 use Rattle.drifters_entry.specs.Layout.{filter_length}
 use Rattle.drifters_kind.specs.declared.kind.Kind.{Kind}
+use Rattle.drifters_kind.proofs.ByNumber.{kinds_found, number_of_kind}
 use Rattle.little_endian.specs.Bytes.{u64_at, u64s_at}
-use Rattle.call_sheet.specs.Sheet.{most_entries, most_bytes, count_of, kind_at, offset_at, table_bytes, filter_end, SheetCall, sheet_call, Sheet, with_call, call_before, calls_at, header_fits, sheet_with, read_sheet, is_some, kinds_of, bits_of, calls_in, most_calls, most_numbers, runs, in_runs, read_into}
+use Rattle.call_sheet.specs.Sheet.{most_entries, most_bytes, count_of, kind_at, offset_at, table_bytes, filter_end, SheetCall, sheet_call, Sheet, with_call, call_before, calls_at, header_fits, sheet_with, read_sheet, is_some, kinds_of, kinds_as, bits_of, calls_in, call_found, calls_by_number, most_calls, most_numbers, runs, in_runs, read_into}
 
 -- None is not Some
 pub no_some : {A B : Type 0} {a : A} → None ≡ Some a → B
@@ -113,32 +117,41 @@ pub length_u64s : (n : ℕ) (s : List ℕ) (p : ℕ) → length (u64s_at n s p) 
 unfolding u64s_at
 length_u64s n s p = length_tab n _
 
--- what k calls are that are found from entry i on, the first body at a place: their bits one after another are the numbers from that place to the end of the
--- file, and from these they come back
+-- the first of a table's entries, and the others
+tab_first : (n : ℕ) (f : ℕ → ℕ) → tab (suc n) f ≡ f 0 ∷ tab n (λ j. f (1 + j))
+unfolding tab
+tab_first n f = ap (λ (m : ℕ). tab m f) (sym (one-add n)) ∙ tab_add 1 n f
+
+-- what k calls are that are found from entry i on, the first body at a place: the numbers of their kinds are those of the table, their bits one after another
+-- are the numbers from that place to the end of the file, and from these they come back
 pub record Calls (k i : ℕ) (s : List ℕ) (place : ℕ) (cs : List SheetCall) : Type 0 where
   pub count : length cs ≡ k
+  pub kinds : kinds_as kind_number cs ≡ tab k (λ j. kind_at s (i + j))
   pub bits : bits_of cs ≡ u64s_at (length (bits_of cs)) s place
   pub ends : place + 8 * length (bits_of cs) ≡ length s
   pub back : (others : List ℕ) → calls_in (kinds_of cs) (bits_of cs ++ others) ≡ Some cs
 
 -- no entry is left
 none_found : (i : ℕ) (s : List ℕ) (place : ℕ) → place ≡ length s → Calls 0 i s place []
-unfolding kinds_of bits_of calls_in u64s_at tab
-none_found i s place e = record { count = refl; bits = refl; ends = omega (arith, e); back = λ others. refl }
+unfolding kinds_of kinds_as bits_of calls_in u64s_at tab
+none_found i s place e = record { count = refl; kinds = refl; bits = refl; ends = omega (arith, e); back = λ others. refl }
 
 -- a call before others
-module _ (k i : ℕ) (s : List ℕ) (place : ℕ) (kind : Kind) (rest : List SheetCall)
+module _ (k i : ℕ) (s : List ℕ) (place : ℕ) (kind : Kind) (rest : List SheetCall) (number : kind_number kind ≡ kind_at s i)
     (after : Calls k (i + 1) s (place + 8 * call_length kind) rest) where
   one_found : Calls (suc k) i s place (sheet_call kind (u64s_at (call_length kind) s place) ∷ rest)
-  unfolding kinds_of bits_of calls_in
+  unfolding kinds_of kinds_as bits_of calls_in
   one_found =
       let n = call_length kind in
       let here = u64s_at n s place in
       let later = bits_of rest in
       let size : length here ≡ n = length_u64s n s place in
       let total : length (here ++ later) ≡ n + length later = length-append here later ∙ ap (λ (m : ℕ). m + length later) size in
+      let entry : (j : ℕ) → i + 1 + j ≡ i + (1 + j) = λ j. omega arith in
+      let first : kind_number kind ≡ kind_at s (i + 0) = number ∙ ap (kind_at s) (sym (add-zero i)) in
       record {
         count = ap suc after.count;
+        kinds = (λ t. first t ∷ (after.kinds ∙ (λ u. tab k (λ j. kind_at s (entry j u)))) t) ∙ sym (tab_first k (λ j. kind_at s (i + j)));
         bits = ap (λ (l : List ℕ). here ++ l) after.bits ∙ sym (u64s_add n (length later) s place) ∙ ap (λ (m : ℕ). u64s_at m s place) (sym total);
         ends = omega (arith, total, after.ends);
         back = λ others.
@@ -160,7 +173,13 @@ calls_found zero i s place cs e = go (eqb place (length s)) refl e
 calls_found (suc k) i s place cs e =
     let n = next k i s place cs e in
     subst (λ (l : List SheetCall). Calls (suc k) i s place l) n.is
-    (one_found k i s place n.kind n.rest (calls_found k (i + 1) s (place + 8 * call_length n.kind) n.rest n.found))
+    (one_found k i s place n.kind n.rest (number_of_kind (kind_at s i) n.kind n.is_kind) (calls_found k (i + 1) s (place + 8 * call_length n.kind) n.rest n.found))
+
+-- by their numbers the kinds give the same calls
+pub by_number : (kinds : List Kind) (bits : List ℕ) → calls_by_number (map kind_number kinds) bits ≡ calls_in kinds bits
+unfolding calls_by_number calls_in
+by_number [] bits = refl
+by_number (kind ∷ kinds) bits = λ i. call_found (kinds_found kind i) bits (λ (rest : List ℕ). by_number kinds rest i)
 
 -- ---- the sheet
 
@@ -259,23 +278,33 @@ module _ (s : List ℕ) where
 
 -- ---- the sheet in lent runs
 
+-- the kinds of calls, each by a function of it
+module _ {K : Type 0} (from_kind : Kind → K) (calls : List SheetCall) where
+  pub kinds_mapped : map from_kind (kinds_of calls) ≡ kinds_as from_kind calls
+  unfolding kinds_of kinds_as
+  kinds_mapped = map-map from_kind (λ (c : SheetCall). c.kind) calls
+
+  pub length_kinds_as : length (kinds_as from_kind calls) ≡ length calls
+  unfolding kinds_as
+  length_kinds_as = length-map calls (λ (c : SheetCall). from_kind c.kind)
+
 -- what `runs_fit` tests
-pub record RunsFit (filter : List ℕ) (kinds : List Kind) (numbers : List ℕ) : Type 0 where
+pub record RunsFit {K : Type 0} (filter : List ℕ) (kinds : List K) (numbers : List ℕ) : Type 0 where
   pub filter_length_lem : length filter ≡ filter_length
   pub kinds_length : most_calls ≤ length kinds
   pub numbers_length : most_numbers ≤ length numbers
 
-module _ (s filter : List ℕ) (kinds : List Kind) (numbers : List ℕ) where
-  pub read_fitting : RunsFit filter kinds numbers → read_into s filter kinds numbers ≡ in_runs (read_sheet s) filter kinds numbers
+module _ {K : Type 0} (from_kind : Kind → K) (s filter : List ℕ) (kinds : List K) (numbers : List ℕ) where
+  pub read_fitting : RunsFit filter kinds numbers → read_into from_kind s filter kinds numbers ≡ in_runs from_kind (read_sheet s) filter kinds numbers
   unfolding read_into
   read_fitting h = rw (eq-eqb _ _ h.filter_length_lem, le-leb _ _ h.kinds_length, le-leb _ _ h.numbers_length)
 
-  pub read_short : (RunsFit filter kinds numbers → ⊥) → read_into s filter kinds numbers ≡ runs (Err refusal.Length) filter kinds numbers
+  pub read_short : (RunsFit filter kinds numbers → ⊥) → read_into from_kind s filter kinds numbers ≡ runs (Err refusal.Length) filter kinds numbers
   unfolding read_into
   read_short never = go (eqb (length filter) filter_length) (leb most_calls (length kinds)) (leb most_numbers (length numbers)) refl refl refl
     where
       go : (a b c : Bool) → eqb (length filter) filter_length ≡ a → leb most_calls (length kinds) ≡ b → leb most_numbers (length numbers) ≡ c
-          → cond (a && b && c) (in_runs (read_sheet s) filter kinds numbers) (runs (Err refusal.Length) filter kinds numbers)
+          → cond (a && b && c) (in_runs from_kind (read_sheet s) filter kinds numbers) (runs (Err refusal.Length) filter kinds numbers)
           ≡ runs (Err refusal.Length) filter kinds numbers
       go true true true p q r = absurd (never (record { filter_length_lem = eqb-true _ _ p; kinds_length = leb-true _ _ q; numbers_length = leb-true _ _ r }))
       go true true false p q r = refl

@@ -4,7 +4,7 @@ use Rattle.drifters_eqf.specs.Answer.{refusal_number}
 use Rattle.drifters_eqf.specs.declared.answer.Refusal.{Refusal}
 use Rattle.drifters_eqf.specs.declared.answer.Refusal.TheVariants as refusal
 use Rattle.drifters_entry.specs.Layout.{filter_length}
-use Rattle.drifters_kind.specs.Kind.{call_length, kind_of}
+use Rattle.drifters_kind.specs.Kind.{kind_number, call_length, kind_of}
 use Rattle.drifters_kind.specs.declared.kind.Kind.{Kind}
 use Rattle.little_endian.specs.Bytes.{u32_at, u64s_at, placed}
 
@@ -108,35 +108,40 @@ refusal_of (Err r) = refusal_number r
 unfoldable pub kinds_of : List SheetCall → List Kind
 kinds_of calls = map (λ c. c.kind) calls
 
+-- the same, each by a function of it: the kind itself, or its number
+unfoldable pub kinds_as : {K : Type 0} → (Kind → K) → List SheetCall → List K
+kinds_as from_kind calls = map (λ c. from_kind c.kind) calls
+
 -- the bits of the numbers of calls, one after another
 unfoldable pub bits_of : List SheetCall → List ℕ
 bits_of [] = []
 bits_of (c ∷ cs) = c.bits ++ bits_of cs
 
--- how many calls, or the refusal; the filter's bits, the kinds, and the bits of all calls, as they are after reading
-pub record Runs : Type 0 where
+-- how many calls, or the refusal; the filter's bits, what the kinds are read into, and the bits of all calls, as they are after reading
+pub record Runs (K : Type 0) : Type 0 where
   pub answer : Result ℕ Refusal
   pub filter : List ℕ
-  pub kinds : List Kind
+  pub kinds : List K
   pub numbers : List ℕ
 
 -- runs of their parts
-abbrev pub runs : Result ℕ Refusal → List ℕ → List Kind → List ℕ → Runs
+abbrev pub runs : {K : Type 0} → Result ℕ Refusal → List ℕ → List K → List ℕ → Runs K
 runs answer filter kinds numbers = record { answer = answer; filter = filter; kinds = kinds; numbers = numbers }
 
 -- the runs are of their stated lengths, the last two at least, which hold every sheet
-abbrev pub runs_fit : List ℕ → List Kind → List ℕ → Bool
+abbrev pub runs_fit : {K : Type 0} → List ℕ → List K → List ℕ → Bool
 runs_fit filter kinds numbers = eqb (length filter) filter_length && leb most_calls (length kinds) && leb most_numbers (length numbers)
 
 -- a sheet at the front of the runs; where there is none they stay
-abbrev pub in_runs : Option Sheet → List ℕ → List Kind → List ℕ → Runs
-in_runs None filter kinds numbers = runs (Err refusal.Sheet) filter kinds numbers
-in_runs (Some sheet) filter kinds numbers =
-    runs (Ok (length sheet.calls)) sheet.filter (placed kinds 0 (kinds_of sheet.calls)) (placed numbers 0 (bits_of sheet.calls))
+abbrev pub in_runs : {K : Type 0} → (Kind → K) → Option Sheet → List ℕ → List K → List ℕ → Runs K
+in_runs from_kind None filter kinds numbers = runs (Err refusal.Sheet) filter kinds numbers
+in_runs from_kind (Some sheet) filter kinds numbers =
+    runs (Ok (length sheet.calls)) sheet.filter (placed kinds 0 (kinds_as from_kind sheet.calls)) (placed numbers 0 (bits_of sheet.calls))
 
 -- a file's bytes read into lent runs
-unfoldable pub read_into : List ℕ → List ℕ → List Kind → List ℕ → Runs
-read_into s filter kinds numbers = cond (runs_fit filter kinds numbers) (in_runs (read_sheet s) filter kinds numbers) (runs (Err refusal.Length) filter kinds numbers)
+unfoldable pub read_into : {K : Type 0} → (Kind → K) → List ℕ → List ℕ → List K → List ℕ → Runs K
+read_into from_kind s filter kinds numbers =
+    cond (runs_fit filter kinds numbers) (in_runs from_kind (read_sheet s) filter kinds numbers) (runs (Err refusal.Length) filter kinds numbers)
 
 -- ---- the way back
 
@@ -151,12 +156,23 @@ unfoldable pub calls_in : List Kind → List ℕ → Option (List SheetCall)
 calls_in [] bits = Some []
 calls_in (kind ∷ kinds) bits = call_from kind bits (calls_in kinds)
 
--- a sheet has its place in the runs, and the runs give its calls back, whatever follows in them
+-- the same of a kind that may not be there; None where it is not
+abbrev pub call_found : Option Kind → List ℕ → (List ℕ → Option (List SheetCall)) → Option (List SheetCall)
+call_found None bits rest = None
+call_found (Some kind) bits rest = call_from kind bits rest
+
+-- the calls of the kinds of some numbers, with the bits of their numbers one after another; None where a number is of no kind
+unfoldable pub calls_by_number : List ℕ → List ℕ → Option (List SheetCall)
+calls_by_number [] bits = Some []
+calls_by_number (n ∷ ns) bits = call_found (kind_of n) bits (calls_by_number ns)
+
+-- a sheet has its place in the runs, and the runs give its calls back, by the kinds and by their numbers, whatever follows in them
 pub record Held (sheet : Sheet) : Type 0 where
   pub filter : length sheet.filter ≡ filter_length
   pub calls : length sheet.calls ≤ most_calls
   pub numbers : length (bits_of sheet.calls) ≤ most_numbers
   pub back : (others : List ℕ) → calls_in (kinds_of sheet.calls) (bits_of sheet.calls ++ others) ≡ Some sheet.calls
+  pub back_by_number : (others : List ℕ) → calls_by_number (kinds_as kind_number sheet.calls) (bits_of sheet.calls ++ others) ≡ Some sheet.calls
 
 -- so it is for every sheet that is read
 abbrev pub SheetsHeld : Type 0

@@ -1,10 +1,10 @@
 // The layout of a call sheet, and the runs that it is read into. A table of n entries ends at 4 + 8 * n: the count, and eight bytes for each.
-ghost use Rattle.std.specs.Prelude.{◌≡◌, ◌-◌, ◌≤◌, true, length, take, None, MatchOption, option_map};
+ghost use Rattle.std.specs.Prelude.{◌≡◌, ◌-◌, ◌≤◌, true, length, take, map, None, MatchOption, option_map};
 ghost use Rattle.call_sheet.specs.Sheet.{most_entries, count_of, filter_end, header_fits, calls_at, kinds_of, read_sheet, runs, read_into};
 
 use drifters_entry::entry::FILTER_LENGTH;
 use drifters_eqf::answer::Refusal;
-use drifters_kind::kind::Kind;
+use drifters_kind::kind::{FromKind, Kind};
 use little_endian::bytes::{u32_at, u64s_at};
 
 // The most entries of a sheet, the filter counted.
@@ -19,15 +19,15 @@ pub const MOST_CALLS: usize = 255;
 // Room for the numbers of all its calls: each is eight bytes.
 pub const MOST_NUMBERS: usize = 8192;
 
-// Reads a sheet: the bits of its filter, the kinds of its calls, and the bits of their numbers one after another, as many as each kind has
-// (`Kind::call_length`). Answers how many calls it has. Three lent runs and a count: the library has no heap for a list of calls.
-pub fn read_sheet(
+// Reads a sheet: the bits of its filter, the kinds of its calls or their numbers, and the bits of the calls' numbers one after another, as many as each
+// kind has (`Kind::call_length`). Answers how many calls it has. Three lent runs and a count: the library has no heap for a list of calls.
+pub fn read_sheet<K: FromKind>(
     s: &[u8],
     filter: &mut [u64],
-    kinds: &mut [Kind],
+    kinds: &mut [K],
     numbers: &mut [u64],
 ) -> Result<usize, Refusal>
-    ensures { runs result filter.new kinds.new numbers.new ≡ read_into s.now filter.old kinds.old numbers.old }
+    ensures { runs result filter.new kinds.new numbers.new ≡ read_into K.from_kind s.now filter.old kinds.old numbers.old }
 {
     if filter.len() != FILTER_LENGTH || kinds.len() < MOST_CALLS || numbers.len() < MOST_NUMBERS {
         return Err(Refusal::Length);
@@ -35,7 +35,7 @@ pub fn read_sheet(
     let n = entries(s).ok_or(Refusal::Sheet)?;
     let found = call_kinds(s, n).ok_or(Refusal::Sheet)?;
     u64s_at(s, 4 + 8 * n, filter);
-    kinds[..n - 1].copy_from_slice(&found[..n - 1]);
+    write_kinds(&mut kinds[..n - 1], &found[..n - 1]);
     let end = 4 + 8 * n + 8 * FILTER_LENGTH;
     let m = (s.len() - end) / 8;
     u64s_at(s, end, &mut numbers[..m]);
@@ -80,4 +80,14 @@ fn call_kinds(s: &[u8], n: usize) -> Option<[Kind; MOST_CALLS]>
         place += 8 * kind.call_length();
     }
     (place == s.len()).then_some(kinds)
+}
+
+// Writes the kinds that were found, each as the type of the run has it.
+fn write_kinds<K: FromKind>(kinds: &mut [K], found: &[Kind])
+    requires { length kinds.old ≡ length found.now }
+    ensures { kinds.new ≡ map K.from_kind found.now }
+{
+    for (i, kind) in kinds.iter_mut().enumerate() {
+        *kind = K::from_kind(found[i]);
+    }
 }

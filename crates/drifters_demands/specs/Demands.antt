@@ -142,15 +142,15 @@ pub record CheckedCompasses (checks : List Check) (run : List Float) (o : Compas
   pub chosen : (i k : ℕ) (x : Float) → o.answer ≡ compasses.Chosen i x k → (is_finite x ≡ true) × FiniteMirrored o.run
 
 -- the checks of a file's bytes that are read into lent runs
-abbrev pub sheet_checks : List ℕ → List ℕ → List Kind → List ℕ → List Check
+abbrev pub sheet_checks : {K : Type 0} → List ℕ → List ℕ → List K → List ℕ → List Check
 sheet_checks s filter kinds numbers = unless length_refusal (runs_fit filter kinds numbers) ∷ unless sheet_refusal (is_some (read_sheet s)) ∷ []
 
 -- What came of reading a file's bytes: the number of the first check that refuses, 0 where none does; where it is refused every lent run as it was;
--- else the sheet, taken into the runs. Of a broken sheet only `refused 6` is printed.
-pub record CheckedSheet (s filter : List ℕ) (kinds : List Kind) (numbers : List ℕ) (o : Runs) : Type 0 where
+-- else the sheet, taken into the runs, the kinds by a function of them. Of a broken sheet only `refused 6` is printed.
+pub record CheckedSheet {K : Type 0} (from_kind : Kind → K) (s filter : List ℕ) (kinds : List K) (numbers : List ℕ) (o : Runs K) : Type 0 where
   pub number : refusal_of o.answer ≡ first_of (sheet_checks s filter kinds numbers)
   pub refusal : (r : Refusal) → o.answer ≡ Err r → (o.filter ≡ filter) × (o.kinds ≡ kinds) × (o.numbers ≡ numbers)
-  pub taken : first_of (sheet_checks s filter kinds numbers) ≡ 0 → (sheet : Sheet) × (read_sheet s ≡ Some sheet) × (o ≡ in_runs (Some sheet) filter kinds numbers)
+  pub taken : first_of (sheet_checks s filter kinds numbers) ≡ 0 → (sheet : Sheet) × (read_sheet s ≡ Some sheet) × (o ≡ in_runs from_kind (Some sheet) filter kinds numbers)
   pub broken : is_some (read_sheet s) ≡ false → sheet_text s ≡ refused_line sheet_refusal
 
 -- a call passes the checks of length and blank, and is a direction call whose measured vector or north has norm 0
@@ -161,7 +161,7 @@ pub record NullCall (kind : Kind) (run v written : List Float) : Type 0 where
 
 -- Every call of a kind, every update by several compasses, every start, every change-over and way back and every sheet is so checked; a call is refused
 -- as null exactly where it is such a call; and an accepted propagation or update of a kind leaves a covariance that mirrors bit for bit.
-pub record Demand1 : Type 0 where
+pub record Demand1 : Type 1 where
   pub calls : (kind : Kind) (run v written : List Float) → Checked (checks kind run v written) run written (call kind run v written)
   pub null : (kind : Kind) (run v written : List Float) → (call kind run v written).answer ≡ Refused null_refusal ↔ NullCall kind run v written
   pub compasses :
@@ -170,7 +170,9 @@ pub record Demand1 : Type 0 where
   pub starts : (run v : List Float) → Checked (start_checks run v) run [] (start run v)
   pub upgrades : (run written : List Float) → Checked (upgrade_checks run written) run written (upgrade run written)
   pub downgrades : (run written : List Float) → Checked (downgrade_checks run written) run written (downgrade run written)
-  pub sheets : (s filter : List ℕ) (kinds : List Kind) (numbers : List ℕ) → CheckedSheet s filter kinds numbers (read_into s filter kinds numbers)
+  pub sheets :
+      {K : Type 0} (from_kind : Kind → K) (s filter : List ℕ) (kinds : List K) (numbers : List ℕ)
+      → CheckedSheet from_kind s filter kinds numbers (read_into from_kind s filter kinds numbers)
   pub mirrored :
       (kind : Kind) (run v written : List Float) → (kind ≡ State → ⊥) → first_of (checks kind run v written) ≡ 0
       → FiniteMirrored (call kind run v written).run

@@ -3,13 +3,13 @@ use Prim.Native.Nat.{ℕ, suc, ◌≤◌, ◌<◌}
 use mathlib.Core.Path.{◌≡◌, refl, sym, ap, ◌∙◌}
 use mathlib.Core.Bool.{Bool, true, false, cond}
 use mathlib.Core.List.{List, [], ◌∷◌}
-use borrow.Author.Tests.{leb-true}
+use borrow.Author.Tests.{eqb-true, leb-true}
 use lib.Dec.{eqb, leb}
 use Rattle.std.specs.Prelude.{Some}
 use Rattle.std.specs.List.{list_all}
 use Rattle.std.proofs.lemmas.Option.{none-some, same_Some}
 use Rattle.std.proofs.lemmas.Bool.{and_parts}
-use Rattle.drifters_kind.specs.Kind.{state_length, kind_number, call_length, written_length, most_call_numbers, all_kinds, find_kind, KindsFound}
+use Rattle.drifters_kind.specs.Kind.{state_length, kind_number, call_length, written_length, most_call_numbers, all_kinds, find_kind, KindsFound, KindsNumbered}
 use Rattle.drifters_kind.specs.declared.kind.Kind.{Kind}
 use Rattle.drifters_kind.specs.declared.kind.Kind.TheVariants.{Propagate, Position, Velocity, Direction, General, State, Scalar}
 
@@ -24,6 +24,19 @@ kinds_found Direction = refl
 kinds_found General = refl
 kinds_found State = refl
 kinds_found Scalar = refl
+
+-- a kind that is found has the number that it is found by
+found_numbered : (n : ℕ) (kinds : List Kind) {kind : Kind} → find_kind n kinds ≡ Some kind → kind_number kind ≡ n
+unfolding find_kind
+found_numbered n [] {kind} e = absurd (none-some kind e)
+found_numbered n (first ∷ kinds) {kind} e = go (eqb n (kind_number first)) refl e (λ later. found_numbered n kinds later)
+  where
+    go : (b : Bool) → eqb n (kind_number first) ≡ b → cond b (Some first) (find_kind n kinds) ≡ Some kind → (find_kind n kinds ≡ Some kind → kind_number kind ≡ n) → kind_number kind ≡ n
+    go true t e after = ap kind_number (sym (same_Some first kind e)) ∙ sym (eqb-true n (kind_number first) t)
+    go false t e after = after e
+
+pub number_of_kind : KindsNumbered
+number_of_kind n kind e = found_numbered n all_kinds e
 
 -- a kind that is found passes every test that the kinds pass
 found_passes : (p : Kind → Bool) (n : ℕ) (kinds : List Kind) {kind : Kind} → find_kind n kinds ≡ Some kind → list_all p kinds ≡ true → p kind ≡ true

@@ -56,3 +56,7 @@ kind_by_number n = ok_or (kind_of n) (record { 0 = n })
 -- every kind is found by its number
 abbrev pub KindsFound : Type 0
 KindsFound = (kind : Kind) → kind_of (kind_number kind) ≡ Some kind
+
+-- the kind of a number has that number
+abbrev pub KindsNumbered : Type 0
+KindsNumbered = (n : ℕ) (kind : Kind) → kind_of n ≡ Some kind → kind_number kind ≡ n

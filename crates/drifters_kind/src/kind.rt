@@ -1,6 +1,7 @@
 // The kinds of call on a filter: the number of each, and how many numbers a call of it has and writes.
 ghost use Rattle.std.specs.Prelude.{◌≡◌};
-ghost use Rattle.drifters_kind.specs.Kind.{call_length, written_length, form_of, kind_by_number};
+ghost use Rattle.drifters_kind.specs.Kind.{kind_number, call_length, written_length, form_of, kind_by_number};
+ghost use Rattle.drifters_kind.specs.declared.kind.Kind.{Kind};
 
 // The kinds that a sheet or a log may hold, each with its number.
 #[derive(Clone, Copy)]
@@ -33,7 +34,7 @@ pub const STATE_LENGTH: usize = 33;
 // The most numbers of a call.
 pub const MOST_CALL_NUMBERS: usize = 75;
 
-// The kind of a number. That each kind is found by its number here is the theorem `KindsFound`.
+// The kind of a number. That each kind is found by its number here is the theorem `KindsFound`, that the kind of a number has it `KindsNumbered`.
 impl TryFrom<u32> for Kind {
     type Error = UnknownKind;
 
@@ -87,5 +88,29 @@ impl Kind {
         ensures { result ≡ written_length self }
     {
         self.form().written
+    }
+}
+
+// What the kinds of a sheet are read into: kinds, or their numbers.
+pub trait FromKind: Copy {
+    ghost from_kind: { Kind → Self };
+
+    fn from_kind(kind: Kind) -> Self
+        ensures { result ≡ from_kind kind };
+}
+
+impl FromKind for Kind {
+    ghost from_kind = { λ kind. kind };
+
+    fn from_kind(kind: Kind) -> Kind {
+        kind
+    }
+}
+
+impl FromKind for u32 {
+    ghost from_kind = { kind_number };
+
+    fn from_kind(kind: Kind) -> u32 {
+        kind.form().number
     }
 }

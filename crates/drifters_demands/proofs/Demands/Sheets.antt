@@ -12,19 +12,21 @@ use Rattle.call_sheet.specs.Text.{text_of, sheet_text}
 use Rattle.drifters_kind.specs.declared.kind.Kind.{Kind}
 use Rattle.drifters_demands.specs.Demands.{first_of, sheet_checks, CheckedSheet}
 
-pub checked_sheet : (s filter : List ℕ) (kinds : List Kind) (numbers : List ℕ) → CheckedSheet s filter kinds numbers (read_into s filter kinds numbers)
+pub checked_sheet : {K : Type 0} (from_kind : Kind → K) (s filter : List ℕ) (kinds : List K) (numbers : List ℕ)
+    → CheckedSheet from_kind s filter kinds numbers (read_into from_kind s filter kinds numbers)
 unfolding read_into sheet_text first_of
-checked_sheet s filter kinds numbers = by_tests (runs_fit filter kinds numbers) refl (read_sheet s) refl
+checked_sheet from_kind s filter kinds numbers = by_tests (runs_fit filter kinds numbers) refl (read_sheet s) refl
   where
     -- the first check that refuses, by what the tests give
     first_is : (fit : Bool) (read : Option Sheet) → runs_fit filter kinds numbers ≡ fit → read_sheet s ≡ read → first_of (sheet_checks s filter kinds numbers) ≡ 0
         → cond (not fit) length_refusal (cond (not (is_some read)) sheet_refusal 0) ≡ 0
     first_is fit read f r z = subst₂ (λ (b : Bool) (o : Option Sheet). cond (not b) length_refusal (cond (not (is_some o)) sheet_refusal 0) ≡ 0) f r z
 
-    answer_is : {sheet : Sheet} → runs_fit filter kinds numbers ≡ true → read_sheet s ≡ Some sheet → (read_into s filter kinds numbers).answer ≡ Ok (length sheet.calls)
+    answer_is : {sheet : Sheet} → runs_fit filter kinds numbers ≡ true → read_sheet s ≡ Some sheet → (read_into from_kind s filter kinds numbers).answer ≡ Ok (length sheet.calls)
     answer_is f r = rw (f, r)
 
-    by_tests : (fit : Bool) → runs_fit filter kinds numbers ≡ fit → (read : Option Sheet) → read_sheet s ≡ read → CheckedSheet s filter kinds numbers (read_into s filter kinds numbers)
+    by_tests : (fit : Bool) → runs_fit filter kinds numbers ≡ fit → (read : Option Sheet) → read_sheet s ≡ read
+        → CheckedSheet from_kind s filter kinds numbers (read_into from_kind s filter kinds numbers)
     by_tests true f None r = record {
       number = rw (f, r);
       refusal = λ x e. rw (f, r) (refl, refl, refl);

@@ -16,7 +16,7 @@ use Rattle.drifters_kind.specs.declared.kind.Kind.{Kind}
 use Rattle.drifters_kind.specs.declared.kind.Kind.TheVariants.{State}
 use Rattle.little_endian.specs.Bytes.{placed}
 use Rattle.little_endian.proofs.Numbers.{numbers_mapped}
-use Rattle.call_sheet.specs.Sheet.{Sheet, read_sheet, most_calls, most_numbers, kinds_of, bits_of, Runs, runs, in_runs, read_into, is_some, calls_in, Held}
+use Rattle.call_sheet.specs.Sheet.{Sheet, read_sheet, most_calls, most_numbers, kinds_of, kinds_as, bits_of, Runs, runs, in_runs, read_into, is_some, calls_in, Held}
 use Rattle.call_sheet.specs.Text.{refused_line, numbers_of, lines_of, text_of, sheet_text, printed}
 use Rattle.call_sheet.proofs.Held.{sheets_held}
 use Rattle.call_sheet.proofs.TextLength.{room, no_room}
@@ -36,32 +36,32 @@ record Read (s : List ℕ) (n : ℕ) (filter : List ℕ) (kinds : List Kind) (nu
 
 -- what was read, by the answer
 module _ (s filter₀ : List ℕ) (kinds₀ : List Kind) (numbers₀ : List ℕ) {filter : List ℕ} {kinds : List Kind} {numbers : List ℕ} where
-  was_read : (read : Option Sheet) {n : ℕ} → read_sheet s ≡ read → runs (Ok n) filter kinds numbers ≡ in_runs read filter₀ kinds₀ numbers₀
+  was_read : (read : Option Sheet) {n : ℕ} → read_sheet s ≡ read → runs (Ok n) filter kinds numbers ≡ in_runs (λ kind. kind) read filter₀ kinds₀ numbers₀
       → Read s n filter kinds numbers
-  unfolding kinds_of placed
-  was_read None is e = let told = ap (λ (x : Runs). x.answer) e in absurd (cc)
+  unfolding kinds_of kinds_as placed
+  was_read None is e = let told = ap (λ (x : Runs Kind). x.answer) e in absurd (cc)
   was_read (Some sheet) {n} is e =
-      let told : ◌≡◌ {A = Result ℕ Refusal} (Ok n) (Ok (length sheet.calls)) = ap (λ (x : Runs). x.answer) e in
+      let told : ◌≡◌ {A = Result ℕ Refusal} (Ok n) (Ok (length sheet.calls)) = ap (λ (x : Runs Kind). x.answer) e in
       let count : n ≡ length sheet.calls = cc in
       let size : length (kinds_of sheet.calls) ≡ n = length-map sheet.calls (λ c. c.kind) ∙ sym count in
       record {
         sheet = sheet;
         is = is;
         count = count;
-        is-filter = ap (λ (x : Runs). x.filter) e;
-        is-kinds = ap (λ (x : Runs). take n x.kinds) e ∙ take_at (kinds_of sheet.calls) _ n size;
+        is-filter = ap (λ (x : Runs Kind). x.filter) e;
+        is-kinds = ap (λ (x : Runs Kind). take n x.kinds) e ∙ take_at (kinds_of sheet.calls) _ n size;
         others = drop (0 + length (bits_of sheet.calls)) numbers₀;
-        is-numbers = ap (λ (x : Runs). x.numbers) e;
+        is-numbers = ap (λ (x : Runs Kind). x.numbers) e;
       }
 
-  was_refused : (read : Option Sheet) {r : Refusal} → read_sheet s ≡ read → runs (Err r) filter kinds numbers ≡ in_runs read filter₀ kinds₀ numbers₀
+  was_refused : (read : Option Sheet) {r : Refusal} → read_sheet s ≡ read → runs (Err r) filter kinds numbers ≡ in_runs (λ kind. kind) read filter₀ kinds₀ numbers₀
       → refused_line (refusal_number r) ≡ sheet_text s
   unfolding sheet_text
   was_refused None {r} is e =
-      let told = ap (λ (x : Runs). x.answer) e in
+      let told = ap (λ (x : Runs Kind). x.answer) e in
       let same : r ≡ refusal.Sheet = cc in
       ap (λ (q : Refusal). refused_line (refusal_number q)) same ∙ sym (ap text_of is)
-  was_refused (Some sheet) is e = let told = ap (λ (x : Runs). x.answer) e in absurd (cc)
+  was_refused (Some sheet) is e = let told = ap (λ (x : Runs Kind). x.answer) e in absurd (cc)
 
 -- a sheet that was read: it has its place in the runs, and its text is that of the calls in them
 module _ {s : List ℕ} {n : ℕ} {filter : List ℕ} {kinds : List Kind} {numbers : List ℕ} (r : Read s n filter kinds numbers) where
@@ -84,11 +84,11 @@ module _ {s : List ℕ} {n : ℕ} {filter : List ℕ} {kinds : List Kind} {numbe
   text e = (λ i. lines_of ((e ∙ ap numbers_of r.is-filter) i) (back i)) ∙ sym (ap text_of r.is)
 
 -- the runs that a sheet is read into hold every sheet
-abbrev read_runs : List ℕ → Runs
-read_runs s = read_into s (replicate filter_length 0) (replicate most_calls State) (replicate most_numbers 0)
+abbrev read_runs : List ℕ → Runs Kind
+read_runs s = read_into (λ kind. kind) s (replicate filter_length 0) (replicate most_calls State) (replicate most_numbers 0)
 
-fitting : (s : List ℕ) → read_runs s ≡ in_runs (read_sheet s) (replicate filter_length 0) (replicate most_calls State) (replicate most_numbers 0)
-fitting s = read_fitting s _ _ _ (record { filter_length_lem = refl; kinds_length = omega arith; numbers_length = omega arith })
+fitting : (s : List ℕ) → read_runs s ≡ in_runs (λ kind. kind) (read_sheet s) (replicate filter_length 0) (replicate most_calls State) (replicate most_numbers 0)
+fitting s = read_fitting (λ kind. kind) s _ _ _ (record { filter_length_lem = refl; kinds_length = omega arith; numbers_length = omega arith })
 
 the_sheet : (c : In-Ok) → Read c.args.s.now c.in-Ok.n c.read_sheet.new.filter c.read_sheet.new.kinds c.read_sheet.new.numbers
 the_sheet c =
