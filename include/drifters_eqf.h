@@ -15,10 +15,10 @@
  * was.
  *
  * MACHINE. The functions keep nothing between calls and take no heap: threads may call them at once on runs of their
- * own. They call memcpy, memmove and memset only. The floating-point mode must be the usual one: round to nearest, no
- * flush to zero, exceptions masked. The processor must know the instructions of x86-64-v2 (SSE4.2), as those since about
- * 2010 do. Stack, measured and not proved: about 80 kB for a call on a filter, 90 kB for one by several compasses,
- * 175 kB for a sheet.
+ * own. They call memcpy and memset only. The floating-point mode must be the usual one: round to nearest, no flush to
+ * zero, exceptions masked. The processor must know the instructions of x86-64-v2 (SSE4.2), as those since about 2010
+ * do. Stack, measured and not proved: about 80 kB for a call on a filter, 90 kB for one by several compasses, 175 kB
+ * for a sheet.
  *
  * FRAMES. Reference: fixed to the ground, such as north-east-down. Body: the inertial sensor's. Compass: the
  * magnetometer's. Attitude R rotates a body vector into the reference frame, mag S a compass vector into the body

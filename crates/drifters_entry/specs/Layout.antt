@@ -1,5 +1,5 @@
 -- The filter and the state as runs of numbers, both ways, with the round trips, and where the alphas stand. Definitions and statements only.
-use Rattle.std.specs.Prelude.{ℕ, ◌+◌, ◌≡◌, ◌≤◌, List, ◌++◌, length, take, drop, Float}
+use Rattle.std.specs.Prelude.{ℕ, ◌+◌, ◌≡◌, ◌≤◌, cond, List, ◌++◌, eqb, length, take, drop, Float}
 use Rattle.drifters_core.specs.Vec3.{to_array}
 use Rattle.drifters_matrix.specs.Shapes.{Mat3}
 use Rattle.drifters_lie.specs.Lie.{mat3_of, to_array_se3, vec3_at, se3_tangent_at}
@@ -82,6 +82,10 @@ start_length = state_length + 441 + 3
 -- n numbers from place i on
 abbrev pub part : List Float → ℕ → ℕ → List Float
 part v i n = take n (drop i v)
+
+-- the numbers of a run, copied to another that is as long; one of another length stays
+abbrev pub copied : List Float → List Float → List Float
+copied from to = cond (eqb (length to) (length from)) from to
 
 -- nine numbers from place i on, as a matrix
 abbrev pub mat3_at : List Float → ℕ → Mat3

@@ -2,7 +2,7 @@
 ghost use Rattle.std.specs.Prelude.{◌≡◌, true, [], ◌+◌, ◌*◌, ◌≤◌, ◌<◌, length};
 ghost use Rattle.drifters_matrix.specs.Matrix.{all_finite};
 ghost use Rattle.drifters_eqf.specs.Answer.{accepted, answer_of};
-ghost use Rattle.drifters_entry.specs.Layout.{from_run, to_run};
+ghost use Rattle.drifters_entry.specs.Layout.{copied, from_run, to_run};
 ghost use Rattle.drifters_kind.specs.Kind.{state_length, call_length};
 ghost use Rattle.drifters_entry.specs.Asked.{first_refusal, request_by};
 ghost use Rattle.drifters_entry.specs.Entry.{propagation, measurement, estimate, process_noise_at, request_of, outcome, performed, range_checked, call, start};
@@ -10,7 +10,7 @@ ghost use Rattle.drifters_kind.specs.declared.kind.Kind.TheVariants.{State};
 
 use crate::layout::{
     ALPHAS, DIRECTION_ALPHA, GRAVITY, POSITION_ALPHA, SIGMA, VELOCITY_ALPHA, alphas_of,
-    filter_is_finite, from_run, matrix_at, state_from_run, state_numbers, symmetry_from_run,
+    filter_is_finite, from_run, matrix_at, state_from_run, state_numbers, store, symmetry_from_run,
     to_run, vec3_at,
 };
 use drifters_core::math::vec3::Vec3;
@@ -106,6 +106,15 @@ pub fn start(run: &mut [f64], numbers: &[f64]) -> Answer
     let gravity = vec3_at(numbers, GRAVITY);
     let filter = EqFilter::new(initial, sigma, gravity);
     write_filter(None, &filter, [START_ALPHA; ALPHAS], run)
+}
+
+// The numbers of a run into another that is as long; one of another length stays.
+pub fn copy_run(from: &[f64], to: &mut [f64])
+    ensures { to.new ≡ copied from.now to.old }
+{
+    if to.len() == from.len() {
+        store(from, to);
+    }
 }
 
 // Whether a call of a form is refused before it is begun, by length or blank. `written` is how many numbers its run to be written has.

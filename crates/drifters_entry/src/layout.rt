@@ -39,6 +39,17 @@ pub const DIRECTION_ALPHA: usize = VELOCITY_ALPHA + 1;
 // How many alphas a filter has.
 pub const ALPHAS: usize = 3;
 
+// The numbers `m`, into a run that is as long. No `copy_from_slice`: where the compiler cannot tell that the two lie apart, that is a call of memmove,
+// which a program without a C library need not have.
+pub(crate) fn store(m: &[f64], out: &mut [f64])
+    requires { length out.old ≡ length m.now }
+    ensures { out.new ≡ m.now }
+{
+    for (k, x) in out.iter_mut().enumerate() {
+        *x = m[k];
+    }
+}
+
 // Three numbers from `at` on, as a vector. group.rt of drifters_symmetry has the same for its 21 numbers: a `requires` on a length stays in a crate.
 pub(crate) fn vec3_at(run: &[f64], at: usize) -> Vec3
     requires { at + 3 ≤ length run.now }
@@ -152,7 +163,7 @@ pub(crate) fn to_run(filter: &EqFilter, alphas: [f64; ALPHAS], run: &mut [f64; F
 {
     let numbers = state_numbers(state_of(filter.x));
     run[..SIGMA].copy_from_slice(&numbers);
-    run[SIGMA..GRAVITY].copy_from_slice(&filter.sigma.data);
+    store(&filter.sigma.data, &mut run[SIGMA..GRAVITY]);
     run[GRAVITY..POSITION_ALPHA].copy_from_slice(&filter.gravity.to_array());
     run[POSITION_ALPHA..].copy_from_slice(&alphas);
 }

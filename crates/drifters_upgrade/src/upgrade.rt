@@ -1,12 +1,12 @@
 // A filter with one alpha, changed over to one with an alpha for each sensor, and back, on lent runs. Runs of any length come in; a call that is
-// refused changes none of them.
+// refused changes none of them. The numbers go over by `copy_run`: `copy_from_slice` would be a call of memmove here (layout.rt of drifters_entry).
 ghost use Rattle.std.specs.Prelude.{◌≡◌, true};
 ghost use Rattle.drifters_matrix.specs.Matrix.{all_finite};
 ghost use Rattle.drifters_eqf.specs.Answer.{answer_of};
 ghost use Rattle.drifters_entry.specs.Entry.{outcome};
 ghost use Rattle.drifters_upgrade.specs.Upgrade.{alphas_equal, upgrade, downgrade};
 
-use drifters_entry::entry::FILTER_LENGTH;
+use drifters_entry::entry::{FILTER_LENGTH, copy_run};
 use drifters_entry::layout::{ALPHAS, DIRECTION_ALPHA, POSITION_ALPHA, VELOCITY_ALPHA};
 use drifters_eqf::answer::{Answer, Refusal};
 use drifters_matrix::math::runs::all_finite;
@@ -25,7 +25,7 @@ pub fn upgrade(run: &[f64], written: &mut [f64]) -> Answer
     if !all_finite(run) {
         return Err(Refusal::Blank);
     }
-    written[..ONE_ALPHA_LENGTH].copy_from_slice(run);
+    copy_run(run, &mut written[..ONE_ALPHA_LENGTH]);
     written[ONE_ALPHA_LENGTH..].copy_from_slice(&[run[POSITION_ALPHA]; ALPHAS - 1]);
     Ok(None)
 }
@@ -44,7 +44,7 @@ pub fn downgrade(run: &[f64], written: &mut [f64]) -> Answer
     if !alphas_equal(run) {
         return Err(Refusal::Unequal);
     }
-    written.copy_from_slice(&run[..ONE_ALPHA_LENGTH]);
+    copy_run(&run[..ONE_ALPHA_LENGTH], written);
     Ok(None)
 }
 
