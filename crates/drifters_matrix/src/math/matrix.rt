@@ -94,8 +94,7 @@ impl<const R: usize, const C: usize, const N: usize> Matrix<R, C, N> {
         requires { (N ≡ R * C) × (M ≡ C * D) × (K ≡ R * D) × (D ≤ K) }
         ensures { out.new.data ≡ matmul R C D self.now.data rhs.now.data }
     {
-        let mut row = [0.0; D];
-        runs::matmul_into(&self.data, &rhs.data, &mut row, &mut out.data, R, C, D);
+        matmul_arrays::<R, C, D, N, M, K>(&self.data, &rhs.data, &mut out.data);
     }
 
     // The matrix times the transpose of `rhs`.
@@ -111,7 +110,6 @@ impl<const R: usize, const C: usize, const N: usize> Matrix<R, C, N> {
         out
     }
 
-    // Where `rhs` is finite, the term of a zero on the left is a zero that changes no sum: it is skipped.
     pub fn mul_transpose_into<const D: usize, const M: usize, const K: usize>(
         &self,
         rhs: &Matrix<D, C, M>,
@@ -120,23 +118,7 @@ impl<const R: usize, const C: usize, const N: usize> Matrix<R, C, N> {
         requires { (N ≡ R * C) × (M ≡ D * C) × (K ≡ R * D) × (D ≤ K) }
         ensures { out.new.data ≡ mul_transpose R C D self.now.data rhs.now.data }
     {
-        let mut t = [0.0; M];
-        let mut row = [0.0; D];
-        if runs::all_finite(&rhs.data) {
-            runs::transpose_into(&rhs.data, &mut t, D, C);
-            runs::matmul_into(&self.data, &t, &mut row, &mut out.data, R, C, D);
-        } else {
-            runs::mul_transpose_into(
-                &self.data,
-                &rhs.data,
-                &mut t,
-                &mut row,
-                &mut out.data,
-                R,
-                C,
-                D,
-            );
-        }
+        mul_transpose_arrays::<R, C, D, N, M, K>(&self.data, &rhs.data, &mut out.data);
     }
 
     // The matrix times the diagonal matrix of `d`, which has CC entries: it is made only where a number is not finite.
@@ -295,8 +277,60 @@ impl<const R: usize, const N: usize> Matrix<R, R, N> {
         requires { N ≡ R * R }
         ensures { self.new.data ≡ symmetrize R self.old.data }
     {
-        runs::symmetrize_in(&mut self.data, R);
+        symmetrize_array::<R, N>(&mut self.data);
     }
+}
+
+// The same on lent arrays, for callers that have no record: a copy into one and out of it takes up to half as long as the product.
+// The R by C matrix `a` times the C by D matrix `b`, into `out`.
+pub fn matmul_arrays<
+    const R: usize,
+    const C: usize,
+    const D: usize,
+    const N: usize,
+    const M: usize,
+    const K: usize,
+>(a: &[f64; N], b: &[f64; M], out: &mut [f64; K])
+    requires { (N ≡ R * C) × (M ≡ C * D) × (K ≡ R * D) × (D ≤ K) }
+    ensures { out.new ≡ matmul R C D a.now b.now }
+{
+    let mut row = [0.0; D];
+    runs::matmul_into(a, b, &mut row, out, R, C, D);
+}
+
+// A left factor with fewer entries than this is multiplied with its zeros: a test of the right one would take longer than they do. Of the sizes in use the
+// largest below it has 63 entries, the smallest above it 378.
+const FEW_ENTRIES: usize = 64;
+
+// The R by C matrix `a` times the transpose of the D by C matrix `b`, into `out`. Where `b` is finite, the term of a zero in `a` is a zero that
+// changes no sum: it is skipped.
+pub fn mul_transpose_arrays<
+    const R: usize,
+    const C: usize,
+    const D: usize,
+    const N: usize,
+    const M: usize,
+    const K: usize,
+>(a: &[f64; N], b: &[f64; M], out: &mut [f64; K])
+    requires { (N ≡ R * C) × (M ≡ D * C) × (K ≡ R * D) × (D ≤ K) }
+    ensures { out.new ≡ mul_transpose R C D a.now b.now }
+{
+    let mut t = [0.0; M];
+    let mut row = [0.0; D];
+    if N < FEW_ENTRIES || !runs::all_finite(b) {
+        runs::mul_transpose_into(a, b, &mut t, &mut row, out, R, C, D);
+    } else {
+        runs::transpose_into(b, &mut t, D, C);
+        runs::matmul_into(a, &t, &mut row, out, R, C, D);
+    }
+}
+
+// Each mirrored pair of the R by R matrix `m` replaced by its mean.
+pub fn symmetrize_array<const R: usize, const N: usize>(m: &mut [f64; N])
+    requires { N ≡ R * R }
+    ensures { m.new ≡ symmetrize R m.old }
+{
+    runs::symmetrize_in(m, R);
 }
 
 // The unit vector at place k: 1.0 there, and +0.0 in every other place.
