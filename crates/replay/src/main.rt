@@ -4,7 +4,7 @@
 mod calls;
 mod readings;
 
-use calls::{replay, replay_files};
+use calls::replay_files;
 use readings::{print_lengths, print_sheet};
 use replay_lists::compasses::replay_compasses;
 use replay_lists::leaves::replay_leaves;
@@ -13,9 +13,16 @@ use replay_lists::tally::Tally;
 use std::io;
 use std::rt::Files;
 
+// A row for each list: its name, and the files of its sheet and of its answers.
+macro_rules! lists {
+    ($($name:literal),* $(,)?) => {
+        [$(($name, concat!($name, ".sheet"), concat!($name, ".answers"))),*]
+    };
+}
+
 // Flights of the mount, as they are and with some of the numbers of their calls changed; filters that no flight leaves; large biases; an alpha for each
 // sensor; turns just above 8 and of 8; directions by vectors of norm 0 and just above it.
-const LISTS: [&str; 34] = [
+const LISTS: [(&str, &str, &str); 34] = lists![
     "flight",
     "second_flight",
     "backwards",
@@ -74,15 +81,15 @@ const SHEETS: [(&str, &str); 9] = [
     ("n of 257", "count257.sheet"),
 ];
 
-fn replay_calls<R: Files + Print + Alloc>(rt: &R) -> io::Result<Tally> {
+fn replay_calls<R: Files + Print>(rt: &R) -> io::Result<Tally> {
     let mut tally = Tally::default();
-    for name in LISTS {
-        tally = tally + replay(rt, name)?;
+    for (name, sheet, answers) in LISTS {
+        tally = tally + replay_files(rt, name, sheet, answers)?;
     }
     Ok(tally)
 }
 
-fn print_sheets<R: Files + Print + Alloc>(rt: &R) -> io::Result<()> {
+fn print_sheets<R: Files + Print>(rt: &R) -> io::Result<()> {
     for (title, path) in SHEETS {
         print_sheet(rt, title, path)?;
     }

@@ -7,8 +7,9 @@ use drifters_entry::entry::{FILTER_LENGTH, START_LENGTH, filter_call, nav_state,
 use drifters_eqf::answer::{Answer, Refusal};
 use drifters_kind::kind::{Kind, MOST_CALL_NUMBERS, STATE_LENGTH};
 use replay_lists::tally::unread;
+use sheet_file::read_file;
+use std::io;
 use std::rt::Files;
-use std::{fs, io};
 
 // How many numbers are lent, by how many are stated.
 #[derive(Clone, Copy)]
@@ -78,15 +79,12 @@ pub(crate) fn print_lengths(rt: &impl Print) -> io::Result<()> {
 }
 
 // A sheet's file as the program `sheet` prints it.
-pub(crate) fn print_sheet<R: Files + Print + Alloc>(
-    rt: &R,
-    name: &str,
-    path: &str,
-) -> io::Result<()> {
-    match fs::read(rt, path) {
-        Ok(sheet) if !sheet.is_empty() && sheet.len() <= MOST_BYTES => {
+pub(crate) fn print_sheet<R: Files + Print>(rt: &R, name: &str, path: &str) -> io::Result<()> {
+    let mut sheet = [0; MOST_BYTES];
+    match read_file(rt, path.as_bytes(), &mut sheet) {
+        Ok(n) if n != 0 => {
             let mut text = [0; MOST_TEXT];
-            let length = sheet_text(&sheet, &mut text);
+            let length = sheet_text(&sheet[..n], &mut text);
             println!(rt; "{name}:")?;
             rt.write_all(&text[..length])
         }

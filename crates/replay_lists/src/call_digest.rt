@@ -34,16 +34,17 @@ pub(crate) struct Stored {
 }
 
 impl Stored {
-    // The answer in the 32 bytes from a place on: a run and a place, since an answer follows the numbers of its call in one record. No `From` for the
-    // four numbers: this is their one use.
-    pub(crate) fn at(s: &[u8], at: usize) -> Stored {
-        let [code, nis, more, filter]: [u64; 4] = bits_at(s, at);
-        Stored {
+    // The answer in the 32 bytes from a place on: a run and a place, since an answer follows the numbers of its call in one record. None where they are
+    // not all there: bytes past the end would be read as 0, as some answers have them. No `From` for the four numbers: this is their one use.
+    pub(crate) fn at(s: &[u8], at: usize) -> Option<Stored> {
+        let answer = s.get(at..)?.get(..ANSWER_BYTES)?;
+        let [code, nis, more, filter]: [u64; 4] = bits_at(answer, 0);
+        Some(Stored {
             code,
             nis,
             more,
             filter,
-        }
+        })
     }
 }
 

@@ -1,7 +1,9 @@
 // Updates by several compasses against the original's answers. The file has the filters, then the calls, each with its answer.
+ghost use Rattle.std.specs.Prelude.{◌≡◌, length, min, take};
+
 use crate::call_digest::{ANSWER_BYTES, CallDigest};
 use crate::digest::digest;
-use crate::numbers::{bits_at, numbers_at, read_path};
+use crate::numbers::{bits_at, numbers_at, read_array};
 use crate::tally::{OfCompasses, Tally, print_line, unread};
 use drifters_compasses::compasses::{
     MOST_READINGS, NORTH_NOISE_LENGTH, READING_LENGTH, Tried, update_compasses,
@@ -42,7 +44,9 @@ const RECORD_BYTES: usize = CALL_BYTES + ANSWER_BYTES;
 const FILE_BYTES: usize = FILTERS_BYTES + RECORD_BYTES * CALLS;
 
 // Of the first numbers of a run as many as a call says, at most all.
-fn lent(numbers: &[f64], n: u64) -> &[f64] {
+fn lent(numbers: &[f64], n: u64) -> &[f64]
+    ensures { result.now ≡ take (min (length numbers.now) n) numbers.now }
+{
     &numbers[..numbers.len().min(n as usize)]
 }
 
@@ -90,8 +94,9 @@ fn run_compasses(filters: &[u8], call: &[u8]) -> CallDigest {
     call_digest(answer, digest(run))
 }
 
-// Makes each call.
-fn run_all(filters: &[u8], calls: &[u8]) -> Tally {
+// Makes each call of the file.
+fn run_all(s: &[u8; FILE_BYTES]) -> Tally {
+    let (filters, calls) = s.split_at(FILTERS_BYTES);
     let mut tally = Tally::default();
     for record in calls.chunks_exact(RECORD_BYTES) {
         tally.compare(run_compasses(filters, record), record, CALL_BYTES);
@@ -100,18 +105,14 @@ fn run_all(filters: &[u8], calls: &[u8]) -> Tally {
 }
 
 // Replays the file of the compasses.
-pub fn replay_compasses<R: Files + Print + Alloc>(
+pub fn replay_compasses<R: Files + Print>(
     rt: &R,
     name: impl AsBytes + Drop,
     path: impl AsBytes + Drop,
 ) -> io::Result<()> {
-    match read_path(rt, path) {
-        Ok(s) if s.len() == FILE_BYTES => {
-            let (filters, calls) = s.split_at(FILTERS_BYTES);
-            let tally = OfCompasses(run_all(filters, calls));
-            print_line(rt, name, tally)
-        }
-        _ => {
+    match read_array(rt, path) {
+        Some(s) => print_line(rt, name, OfCompasses(run_all(&s))),
+        None => {
             unread(rt, name)?;
             Ok(())
         }

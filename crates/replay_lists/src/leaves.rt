@@ -6,8 +6,9 @@ use drifters_core::math::vec3::Vec3;
 use drifters_lie::lie::Se3Tangent;
 use drifters_matrix::math::matrix::{Mat3, Mat21, Vector3};
 use little_endian::bits::bits_of;
+use sheet_file::read_file;
+use std::io;
 use std::rt::Files;
-use std::{fs, io};
 
 // A record has six numbers, and the 36 of a result after them.
 const NUMBERS_BYTES: usize = 8 * 6;
@@ -60,7 +61,7 @@ fn run_leaf<F: Fn([f64; 6]) -> [f64; 36]>(leaf: F, s: &[u8]) -> Tally
 }
 
 // Replays the records of a file.
-fn replay_leaf<R: Files + Print + Alloc, F: Fn([f64; 6]) -> [f64; 36]>(
+fn replay_leaf<R: Files + Print, F: Fn([f64; 6]) -> [f64; 36]>(
     rt: &R,
     name: &str,
     path: &str,
@@ -68,9 +69,10 @@ fn replay_leaf<R: Files + Print + Alloc, F: Fn([f64; 6]) -> [f64; 36]>(
 ) -> io::Result<()>
     requires { F.IsAlwaysCallable leaf }
 {
-    match fs::read(rt, path) {
-        Ok(s) if !s.is_empty() && s.len() <= MOST_BYTES => {
-            let tally = OfValues(run_leaf(leaf, &s));
+    let mut s = [0; MOST_BYTES];
+    match read_file(rt, path.as_bytes(), &mut s) {
+        Ok(n) if n != 0 => {
+            let tally = OfValues(run_leaf(leaf, &s[..n]));
             println!(rt; "{name}: {tally}")
         }
         _ => {
@@ -81,7 +83,7 @@ fn replay_leaf<R: Files + Print + Alloc, F: Fn([f64; 6]) -> [f64; 36]>(
 }
 
 // Replays every file of values.
-pub fn replay_leaves<R: Files + Print + Alloc>(rt: &R) -> io::Result<()> {
+pub fn replay_leaves<R: Files + Print>(rt: &R) -> io::Result<()> {
     for (name, path) in [
         ("integrated_adjoint", "adjoint.bin"),
         ("integrated_adjoint, amax 2^60", "adjoint60.bin"),

@@ -1,18 +1,22 @@
 // A file, and the numbers in it, by their bits.
 use little_endian::bits::number_of;
 use little_endian::bytes::u64s_at;
-use std::io::{AsBytes, ErrorKind};
+use sheet_file::read_file;
+use std::array;
+use std::io::AsBytes;
 use std::rt::Files;
-use std::{array, fs, io};
 
-// The bytes of a file. The library opens a path by its text, so a path that is no UTF-8 is of no file. `read_file` of sheet_file has this line too:
-// this crate does not stand on that one, which reads into a lent run.
-pub(crate) fn read_path<R: Files + Alloc>(
+// The bytes of a file of N bytes; none where it has another length or cannot be read. An array and no `Vec`: so a file of any length is refused
+// without a heap.
+pub(crate) fn read_array<R: Files, const N: usize>(
     rt: &R,
     path: impl AsBytes + Drop,
-) -> io::Result<Vec<u8, R::A>> {
-    let path = str::from_utf8(path.as_byte_slice()).map_err(|_| ErrorKind::NotFound)?;
-    fs::read(rt, path)
+) -> Option<[u8; N]> {
+    let mut bytes = [0; N];
+    match read_file(rt, path.as_byte_slice(), &mut bytes) {
+        Ok(n) if n == N => Some(bytes),
+        _ => None,
+    }
 }
 
 // The bit patterns from a place on: a run and a place, since a record has several runs of numbers.

@@ -1,7 +1,7 @@
 // The starts of a file against the original's answers, which stand beside the numbers of each.
 use crate::call_digest::{ANSWER_BYTES, CallDigest, UNTOUCHED};
 use crate::digest::digest;
-use crate::numbers::{numbers_at, read_path};
+use crate::numbers::{numbers_at, read_array};
 use crate::tally::{Tally, print_line, unread};
 use drifters_entry::entry::{FILTER_LENGTH, START_LENGTH, start};
 use std::io;
@@ -17,6 +17,8 @@ const NUMBERS_BYTES: usize = 8 * START_LENGTH;
 // The bytes of a start with its answer.
 const START_BYTES: usize = NUMBERS_BYTES + ANSWER_BYTES;
 
+const FILE_BYTES: usize = START_BYTES * STARTS;
+
 // Starts a filter by a start's numbers.
 fn run_start(numbers: &[f64]) -> CallDigest {
     let mut run = [UNTOUCHED; FILTER_LENGTH];
@@ -29,7 +31,7 @@ fn run_start(numbers: &[f64]) -> CallDigest {
 }
 
 // Makes each start, all on a run of their own.
-fn run_starts(s: &[u8]) -> Tally {
+fn run_starts(s: &[u8; FILE_BYTES]) -> Tally {
     let mut tally = Tally::default();
     for record in s.chunks_exact(START_BYTES) {
         let numbers: [f64; START_LENGTH] = numbers_at(record, 0);
@@ -39,17 +41,17 @@ fn run_starts(s: &[u8]) -> Tally {
 }
 
 // Replays the file of the starts.
-pub fn replay_starts<R: Files + Print + Alloc>(
+pub fn replay_starts<R: Files + Print>(
     rt: &R,
     name: impl AsBytes + Drop,
     path: impl AsBytes + Drop,
 ) -> io::Result<Tally> {
-    match read_path(rt, path) {
-        Ok(s) if s.len() == START_BYTES * STARTS => {
+    match read_array(rt, path) {
+        Some(s) => {
             let tally = run_starts(&s);
             print_line(rt, name, tally)?;
             Ok(tally)
         }
-        _ => unread(rt, name),
+        None => unread(rt, name),
     }
 }

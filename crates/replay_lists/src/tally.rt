@@ -55,9 +55,10 @@ impl Tally {
         }
     }
 
-    // One call more: what came of it, and the original's answer from a place on. A run and a place, since an answer follows the numbers in one record.
+    // One call more: what came of it, and the original's answer from a place on; where there is none it differs. A run and a place, since an answer
+    // follows the numbers in one record.
     pub fn compare(&mut self, given: CallDigest, answers: &[u8], at: usize) {
-        let same = Stored::from(given) == Stored::at(answers, at);
+        let same = Stored::at(answers, at) == Some(Stored::from(given));
         self.count(given.answer, same);
     }
 }
@@ -175,4 +176,29 @@ pub(crate) fn print_line(
 ) -> io::Result<()> {
     rt.write_all(name.as_byte_slice())?;
     println!(rt; ": {line}")
+}
+
+#[cfg(test)]
+mod tests {
+    use super::*;
+    use crate::calls::run_call;
+    use drifters_entry::entry::FILTER_LENGTH;
+    use drifters_kind::kind::Kind;
+
+    // Whether a state call on a filter of zeros, whose stored answer is zeros, is counted as differing from the answer in some bytes.
+    fn differs(answers: &[u8], at: usize) -> bool {
+        let given = run_call(Kind::State, &mut [0.0; FILTER_LENGTH], &[]);
+        let mut tally = Tally::default();
+        tally.compare(given, answers, at);
+        tally.differing.calls == ONE
+    }
+
+    #[test]
+    fn an_answer_that_is_missing_or_cut_differs(rt: HostRuntime) {
+        assert!(rt; !differs(&[0; 32], 0));
+        assert!(rt; differs(&[], 0));
+        assert!(rt; differs(&[0; 31], 0));
+        assert!(rt; differs(&[0; 32], 1));
+        assert!(rt; differs(&[0; 32], usize::MAX));
+    }
 }

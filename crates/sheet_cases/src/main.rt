@@ -7,8 +7,8 @@ use drifters_entry::entry::FILTER_LENGTH;
 use drifters_eqf::answer::Refusal;
 use drifters_kind::kind::Kind;
 use drifters_upgrade::upgrade::ONE_ALPHA_LENGTH;
+use little_endian::bytes::put_u32;
 use sheet_file::{counted, read_file};
-use std::alloc::Allocator;
 use std::io;
 use std::rt::Files;
 
@@ -33,6 +33,9 @@ const SCALAR_END: usize = BODY + 8 * 23;
 // The bytes of a file that is longer than a sheet may be.
 const LONG: usize = MOST_BYTES + 1;
 
+// Room for the sheets that are made here, the longest of them longer than a sheet may be.
+const ROOM: usize = MOST_BYTES + 8;
+
 // The number of a filter, and the first after the kinds, which no kind has.
 const FILTER: u32 = 0;
 
@@ -52,97 +55,105 @@ fn file<R: Files + Print>(rt: &R, name: &str, path: &str, bytes: &mut [u8]) -> i
     report(rt, name, &bytes[..n])
 }
 
-// A number, lowest byte first.
-fn push<A: Allocator>(bytes: &mut Vec<u8, A>, n: u32) -> io::Result<()> {
-    bytes.extend_from_slice(&n.to_le_bytes())?;
-    Ok(())
+// A sheet that is made here: numbers one after the other, a count and a table, and zeros after them, which are its bodies. An array and no `Vec`: no heap
+// is needed.
+#[derive(Drop)]
+struct MadeSheet {
+    bytes: [u8; ROOM],
+    // The place of the next number. It wraps, so that no bound has to be kept.
+    end: usize,
 }
 
-// An entry of a table: its kind, and the offset of its body, modulo 2^32, so that no bound has to be kept. The kind is a number here, since numbers of
-// no kind are written too.
-fn push_entry<A: Allocator>(bytes: &mut Vec<u8, A>, kind: u32, offset: usize) -> io::Result<()> {
-    push(bytes, kind)?;
-    push(bytes, (offset % 0x1_0000_0000) as u32)
-}
-
-// Entries of n calls of a kind, the first body at `offset`. Answers where the last body ends; this wraps, so that no bound has to be kept.
-fn push_calls<A: Allocator>(
-    bytes: &mut Vec<u8, A>,
-    n: u16,
-    kind: Kind,
-    offset: usize,
-) -> io::Result<usize> {
-    let mut end = offset;
-    for _ in 0..n {
-        push_entry(bytes, kind.form().number, end)?;
-        end = end.wrapping_add(8 * kind.call_length());
+impl MadeSheet {
+    fn new() -> MadeSheet {
+        MadeSheet {
+            bytes: [0; ROOM],
+            end: 0,
+        }
     }
-    Ok(end)
-}
 
-// A count of n entries, and the entry of a filter right after the table, as each sheet begins. Answers where the filter ends.
-fn push_front<A: Allocator>(bytes: &mut Vec<u8, A>, n: u16) -> io::Result<usize> {
-    let offset = 4 + 8 * usize::from(n);
-    push(bytes, u32::from(n))?;
-    push_entry(bytes, FILTER, offset)?;
-    Ok(offset + FILTER_BYTES)
-}
+    // A number; where there is no room for it, it is not written.
+    fn push(&mut self, n: u32) {
+        put_u32(&mut self.bytes, self.end, n);
+        self.end = self.end.wrapping_add(4);
+    }
 
-// The sheet that begins with these bytes, a count and a table; its bodies are zeros, in a file of `length` bytes.
-fn report_zeros<R: Print, A: Allocator>(
-    rt: &R,
-    name: &str,
-    mut bytes: Vec<u8, A>,
-    length: usize,
-) -> io::Result<()> {
-    bytes.resize(length, 0)?;
-    report(rt, name, &bytes)
+    // An entry of a table: its kind, and the offset of its body, modulo 2^32, so that no bound has to be kept. The kind is a number here, since numbers of
+    // no kind are written too.
+    fn push_entry(&mut self, kind: u32, offset: usize) {
+        self.push(kind);
+        self.push((offset % 0x1_0000_0000) as u32);
+    }
+
+    // Entries of n calls of a kind, the first body at `offset`. Answers where the last body ends; this wraps, so that no bound has to be kept.
+    fn push_calls(&mut self, n: u16, kind: Kind, offset: usize) -> usize {
+        let mut end = offset;
+        for _ in 0..n {
+            self.push_entry(kind.form().number, end);
+            end = end.wrapping_add(8 * kind.call_length());
+        }
+        end
+    }
+
+    // A count of n entries, and the entry of a filter right after the table, as each sheet begins. Answers where the filter ends.
+    fn push_front(&mut self, n: u16) -> usize {
+        let offset = 4 + 8 * usize::from(n);
+        self.push(u32::from(n));
+        self.push_entry(FILTER, offset);
+        offset + FILTER_BYTES
+    }
+
+    // The sheet in a file of `length` bytes. It fails where there is no room for so many.
+    fn report(&self, rt: &impl Print, name: &str, length: usize) -> io::Result<()> {
+        let sheet = self.bytes.get(..length).ok_or(io::ErrorKind::FileTooLarge)?;
+        report(rt, name, sheet)
+    }
 }
 
 // A filter of zeros alone, by its entry, in a file of `length` bytes.
-fn filter_entry<R: Print + Alloc>(
-    rt: &R,
+fn filter_entry(
+    rt: &impl Print,
     name: &str,
     kind: u32,
     offset: usize,
     length: usize,
 ) -> io::Result<()> {
-    let mut bytes = Vec::new(rt.alloc());
-    push(&mut bytes, 1)?;
-    push_entry(&mut bytes, kind, offset)?;
-    report_zeros(rt, name, bytes, length)
+    let mut sheet = MadeSheet::new();
+    sheet.push(1);
+    sheet.push_entry(kind, offset);
+    sheet.report(rt, name, length)
 }
 
 // A filter of zeros and one call, its body at `offset`, in a file of `length` bytes.
-fn one_call<R: Print + Alloc>(
-    rt: &R,
+fn one_call(
+    rt: &impl Print,
     name: &str,
     kind: u32,
     offset: usize,
     length: usize,
 ) -> io::Result<()> {
-    let mut bytes = Vec::new(rt.alloc());
-    push_front(&mut bytes, 2)?;
-    push_entry(&mut bytes, kind, offset)?;
-    report_zeros(rt, name, bytes, length)
+    let mut sheet = MadeSheet::new();
+    sheet.push_front(2);
+    sheet.push_entry(kind, offset);
+    sheet.report(rt, name, length)
 }
 
 // A sheet of n entries: a filter of zeros, and state calls, whose bodies are empty.
-fn states<R: Print + Alloc>(rt: &R, name: &str, n: u16) -> io::Result<()> {
-    let mut bytes = Vec::new(rt.alloc());
-    let end = push_front(&mut bytes, n)?;
-    push_calls(&mut bytes, n.saturating_sub(1), Kind::State, end)?;
-    report_zeros(rt, name, bytes, end)
+fn states(rt: &impl Print, name: &str, n: u16) -> io::Result<()> {
+    let mut sheet = MadeSheet::new();
+    let end = sheet.push_front(n);
+    sheet.push_calls(n.saturating_sub(1), Kind::State, end);
+    sheet.report(rt, name, end)
 }
 
 // A sheet of n entries: a filter of zeros, 101 general updates, a propagation, and state calls.
-fn long<R: Print + Alloc>(rt: &R, name: &str, n: u16) -> io::Result<()> {
-    let mut bytes = Vec::new(rt.alloc());
-    let updates = push_front(&mut bytes, n)?;
-    let propagation = push_calls(&mut bytes, 101, Kind::General, updates)?;
-    let end = push_calls(&mut bytes, 1, Kind::Propagate, propagation)?;
-    push_calls(&mut bytes, n.saturating_sub(103), Kind::State, end)?;
-    report_zeros(rt, name, bytes, end)
+fn long(rt: &impl Print, name: &str, n: u16) -> io::Result<()> {
+    let mut sheet = MadeSheet::new();
+    let updates = sheet.push_front(n);
+    let propagation = sheet.push_calls(101, Kind::General, updates);
+    let end = sheet.push_calls(1, Kind::Propagate, propagation);
+    sheet.push_calls(n.saturating_sub(103), Kind::State, end);
+    sheet.report(rt, name, end)
 }
 
 // A text run that is a byte too short is refused 1.
@@ -155,7 +166,7 @@ fn short_text(rt: &impl Print) -> io::Result<()> {
 }
 
 // A filter of zeros and one call: in its place, and out of it.
-fn one_calls<R: Print + Alloc>(rt: &R) -> io::Result<()> {
+fn one_calls(rt: &impl Print) -> io::Result<()> {
     let position = Kind::Position.form().number;
     one_call(rt, "a position call", position, BODY, END)?;
     one_call(rt, "a gap", position, BODY + 8, END + 8)?;

@@ -2,7 +2,7 @@
 // a heap.
 #![tactic(auto)]
 
-ghost use Rattle.std.specs.Prelude.{◌≡◌, take, IfOk, IfSome};
+ghost use Rattle.std.specs.Prelude.{◌≡◌, ◌≤◌, length, take, IfOk, IfSome};
 ghost use Rattle.std.specs.Io.{ReadsAtMost};
 ghost use Rattle.std.specs.Io.KnownBytes.{Consumes};
 ghost use Rattle.std.specs.Result.{result_ok};
@@ -23,27 +23,28 @@ pub fn counted(n: usize, rest: io::Result<usize>) -> io::Result<usize>
     }
 }
 
-// Reads until `bytes` is full or the reader ends. Answers how many bytes it put at the front of `bytes`. A `while`: each read gives as much as it likes.
-fn read_full<R: Read>(reader: &mut R, bytes: &mut [u8]) -> io::Result<usize>
-    ensures in_bounds { ReadsAtMost result bytes.new }
-    ensures given { IfOk result (λ n. Consumes (R.remaining reader.old) (R.remaining reader.new) (take n bytes.new)) }
+// Reads until `bytes` is full, the reader ends or a read fails: whether the end is reached is for one further read to say. Answers how many bytes it put
+// at the front of `bytes`. A `while`: each read gives as much as it likes.
+fn read_full<R: Read>(reader: &mut R, bytes: &mut [u8]) -> usize
+    ensures in_bounds { (result ≤ length bytes.new) × (result ≡ length (take result bytes.new)) }
+    ensures given { Consumes (R.remaining reader.old) (R.remaining reader.new) (take result bytes.new) }
 {
     let mut done = 0;
     while done < bytes.len() {
-        match reader.read(&mut bytes[done..])? {
-            0 => break,
-            n => done += n,
+        match reader.read(&mut bytes[done..]) {
+            Ok(0) | Err(_) => break,
+            Ok(n) => done += n,
         }
     }
-    Ok(done)
+    done
 }
 
-// A reader's bytes at the front of `bytes`; answers how many there are. It fails where a read does, or where there are more than `bytes` holds.
+// A reader's bytes at the front of `bytes`; answers how many there are. It fails where they cannot be read to their end, or are more than `bytes` holds.
 pub fn read_whole<R: Read>(reader: &mut R, bytes: &mut [u8]) -> io::Result<usize>
     ensures in_bounds { ReadsAtMost result bytes.new }
     ensures whole { IfOk result (λ n. IfSome (R.remaining reader.old) (λ all. take n bytes.new ≡ all)) }
 {
-    let n = read_full(reader, bytes)?;
+    let n = read_full(reader, bytes);
     counted(n, reader.read(&mut [0u8; 1]))
 }
 
@@ -97,6 +98,35 @@ mod tests {
         let mut reader = Failing { given: false };
         assert_eq!(rt; read_whole(&mut reader, &mut [0u8; 4]).unwrap_or(0), 0);
         let mut reader = Failing { given: false };
+        assert_eq!(rt; read_whole(&mut reader, &mut [0u8; 1]).unwrap_or(0), 0);
+    }
+
+    // Gives one byte, fails once, and is then at its end.
+    #[derive(Drop)]
+    struct FailingOnce {
+        reads: u8,
+    }
+
+    impl Read for FailingOnce {
+        fn read(&mut self, buf: &mut [u8]) -> io::Result<usize> {
+            let reads = self.reads;
+            if reads > 1 || buf.is_empty() {
+                return Ok(0);
+            }
+            self.reads = reads + 1;
+            if reads == 1 {
+                return Err(io::Error::from(ErrorKind::Other));
+            }
+            buf[0] = 1;
+            Ok(1)
+        }
+    }
+
+    #[test]
+    fn counts_all_where_the_read_after_a_failure_finds_the_end(rt: HostRuntime) {
+        let mut reader = FailingOnce { reads: 0 };
+        assert_eq!(rt; read_whole(&mut reader, &mut [0u8; 4]).unwrap_or(0), 1);
+        let mut reader = FailingOnce { reads: 0 };
         assert_eq!(rt; read_whole(&mut reader, &mut [0u8; 1]).unwrap_or(0), 0);
     }
 }

@@ -17,6 +17,6 @@ front_and_given a k n xs ys within fits =
 pub loop-done-preserved : goal.loop-done-preserved
 loop-done-preserved g c =
     let before = c.loop-done.invariant in
-    let read = c.in_ok-n.ensures in
-    let joined = front_and_given c.loop-done.done (length c.loop-done.bytes - c.loop-done.done) c.in_ok-n.n c.loop-done.bytes c.read.new.buf before.0 read.bound.0 in
+    let read = c.in-Ok.ensures in
+    let joined = front_and_given c.loop-done.done (length c.loop-done.bytes - c.loop-done.done) c.in-Ok.n c.loop-done.bytes c.read.new.buf before.0 read.bound.0 in
     (search rules, subst (Consumes _ _) (sym joined) (Consumes-trans _ _ _ _ _ before.1 read.bytes.0))
