@@ -55,6 +55,11 @@ fn file<R: Files + Print>(rt: &R, name: &str, path: &str, bytes: &mut [u8]) -> i
     report(rt, name, &bytes[..n])
 }
 
+// The sheet in a file, read into an array that holds every sheet.
+fn whole_file<R: Files + Print>(rt: &R, name: &str, path: &str) -> io::Result<()> {
+    file(rt, name, path, &mut [0; MOST_BYTES])
+}
+
 // A sheet that is made here: numbers one after the other, a count and a table, and zeros after them, which are its bodies. An array and no `Vec`: no heap
 // is needed.
 #[derive(Drop)]
@@ -211,7 +216,7 @@ fn further_reads(rt: &impl Print) -> io::Result<()> {
 // What is read of files, and what of it counts: a file in a run that holds it, in one a byte shorter, and in one that holds a sheet of a filter and a
 // state call, which the file begins with.
 fn files<R: Files + Print>(rt: &R) -> io::Result<()> {
-    file(rt, "a folder", ".", &mut [0; MOST_BYTES])?;
+    whole_file(rt, "a folder", ".")?;
     long_file(rt, "a file in a run of its length", &mut [0; LONG])?;
     long_file(rt, "in a run a byte shorter", &mut [0; MOST_BYTES])?;
     file(
@@ -224,14 +229,9 @@ fn files<R: Files + Print>(rt: &R) -> io::Result<()> {
 }
 
 fn main(rt: HostRuntime) -> io::Result<()> {
-    file(
-        &rt,
-        "every kind and every refusal",
-        "flight.bin",
-        &mut [0; MOST_BYTES],
-    )?;
-    file(&rt, "large numbers", "overflow.bin", &mut [0; MOST_BYTES])?;
-    file(&rt, "no such file", "missing.bin", &mut [0; MOST_BYTES])?;
+    whole_file(&rt, "every kind and every refusal", "flight.bin")?;
+    whole_file(&rt, "large numbers", "overflow.bin")?;
+    whole_file(&rt, "no such file", "missing.bin")?;
     report(&rt, "an empty file", b"")?;
     states(&rt, "no entries", 0)?;
     states(&rt, "a filter alone", 1)?;
